@@ -1,11 +1,33 @@
 // The cards of a System/360 object deck: names, fields, items, and what a card of eighty bytes says.
+mod charset;
+mod content;
+mod end;
+mod esd;
+mod fields;
 mod name;
+mod reading;
 mod refusal;
+mod rld;
+mod txt;
 
+pub use charset::punched;
+pub use charset::shown;
+pub use content::Card;
+pub use content::CardKind;
+pub use content::EndCard;
+pub use content::EndEntry;
+pub use content::EsdCard;
+pub use content::EsdItem;
+pub use content::RldCard;
+pub use content::RldItem;
+pub use content::Sign;
+pub use content::Strength;
+pub use content::TxtCard;
+pub use content::Width;
 pub use name::Name;
-pub use name::NameDebug;
 pub use name::NameEq;
 pub use name::NameEquals;
+pub use reading::parse;
 pub use refusal::CardAt;
 pub use refusal::CardFault;
 pub use refusal::Layer;

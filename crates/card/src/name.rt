@@ -3,7 +3,7 @@ ghost use mathlib.Core.Path.{_≡_};
 ghost use Rattle.card.specs.Names.{isBlank, numberOf, sameName, blankName};
 
 // Any eight bytes, as they are punched.
-#[derive(Clone, Copy, Debug)]
+#[derive(Clone, Copy)]
 pub struct Name {
     pub bytes: [u8; 8],
 }

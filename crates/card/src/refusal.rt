@@ -24,7 +24,7 @@ pub struct Refusal {
 }
 
 // Where a card stands: its deck's name as a number, and its place in the deck, from 1.
-#[derive(Clone, Copy, PartialEq, Eq, Debug)]
+#[derive(Clone, Copy)]
 pub struct CardAt {
     pub deck: u64,
     pub card: u16,
@@ -46,7 +46,7 @@ impl CardAt {
 }
 
 // What can be wrong with one card.
-#[derive(Clone, Copy, PartialEq, Eq, Debug)]
+#[derive(Clone, Copy)]
 pub enum CardFault {
     UnknownKind(CardAt),
     EndMisplaced(CardAt),
