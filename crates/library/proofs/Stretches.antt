@@ -3,7 +3,10 @@ use mathlib.Core.Path.{_≡_, refl, sym, ap, _∙_}
 use mathlib.Core.Bool.{Bool, cond, true, false, _&&_}
 use mathlib.Core.List.{List, [], _∷_, map}
 use Prim.Native.Nat.{ℕ, zero, suc, _+_, _-_, _/_, _≤_, _<_}
+use mathlib.Core.Logic.{_⊎_, inl, inr}
 use native.Mathlib.Omega.{arith}
+use borrow.Author.Tests.{leb-true, leb-false}
+use lib.Dec.{leb}
 use lib.ListN.{length, getD, take, drop}
 use Rattle.std.specs.declared.option.Option.{Option}
 use Rattle.std.specs.declared.option.Option.the-variants.{Some, None}
@@ -13,7 +16,7 @@ use Rattle.std.proofs.shelf.Lists.{length-drop, length-take, length-map, getD-d
 use Rattle.library.specs.declared.stretch.Stretch.{Stretch}
 use Rattle.library.specs.Decks.{cardsOf, cardAt, isHeader, isHeaderOf, nameOn, deck}
 use Rattle.library.specs.Faults.{goodSize, goodBehind, goodSizes, trayFault}
-use Rattle.library.specs.Found.{cardsIn, endOf}
+use Rattle.library.specs.Found.{cardsIn, endOf, hasCard}
 use Rattle.library.specs.Slots.{Slot, Card, counted, slotAt, from1}
 use Rattle.library.specs.Sound.{both-0, both-1, sizes-good, size-is}
 use Rattle.library.proofs.Places.{at-within, from1-at, from1-past}
@@ -65,9 +68,13 @@ pub none-found : (o : Option (List (List ℕ))) → false ≡ isSome o → mappe
 none-found None h = refl
 none-found (Some d) h = let z : _≡_ {A = ℕ} 0 1 = cc in absurd (omega arith)
 
-pub no-slot-0 : (o : Option (List Slot)) → slotAt o 0 ≡ None
+no-slot-0 : (o : Option (List Slot)) → slotAt o 0 ≡ None
 no-slot-0 None = refl
 no-slot-0 (Some slots) = refl
+
+has-by : (a b : Bool) → (a && b) ≡ false → (a ≡ false) ⊎ (b ≡ false)
+has-by true b h = inr h
+has-by false b h = inl refl
 
 some-found : (o : Option (List (List ℕ))) (d : List (List ℕ)) → true ≡ isSome o → d ≡ valueOr o [] → mapped (map Card) o ≡ Some (map Card d)
 some-found None d h v = let z : _≡_ {A = ℕ} 0 1 = cc in absurd (omega arith)
@@ -87,13 +94,24 @@ module _ (bytes : List ℕ) (o : Option (List (List ℕ))) (s : Stretch) (known 
   pub found-count : counted (mapped (map Card) o) ≡ Some (s .size)
   found-count = ap counted held ∙ ap Some (length-map (cardsIn (Some s) (cardsOf bytes)) Card ∙ long)
 
-  pub found-past : (i : ℕ) → s .size < i → slotAt (mapped (map Card) o) i ≡ None
-  found-past i past =
+  past : (i : ℕ) → s .size < i → slotAt (mapped (map Card) o) i ≡ None
+  past i more =
       let len = length-map (cardsIn (Some s) (cardsOf bytes)) Card ∙ long in
       ap (λ x. slotAt x i) held ∙ from1-past (map Card (cardsIn (Some s) (cardsOf bytes))) i (omega arith)
 
-  pub found-card : (i : ℕ) → 0 < i → i ≤ s .size → slotAt (mapped (map Card) o) i ≡ Some (Card (cardAt bytes (s .first + i - 1)))
-  found-card i pos most =
+  pub found-past : (i : ℕ) → hasCard s i ≡ false → slotAt (mapped (map Card) o) i ≡ None
+  found-past i out = elim (has-by (leb 1 i) (leb i (s .size)) out) [
+    | inl low ↦ let e : i ≡ 0 = omega (arith, leb-false 1 i low) in ap (slotAt (mapped (map Card) o)) e ∙ no-slot-0 (mapped (map Card) o)
+    | inr high ↦ past i (omega (arith, leb-false i (s .size) high))
+  ]
+
+  pub within-has : (i : ℕ) → hasCard s i ≡ true → (0 < i) × (i ≤ s .size)
+  within-has i h = (omega (arith, leb-true 1 i (both-0 (leb 1 i) (leb i (s .size)) h)), leb-true i (s .size) (both-1 (leb 1 i) (leb i (s .size)) h))
+
+  pub found-card : (i : ℕ) → hasCard s i ≡ true → slotAt (mapped (map Card) o) i ≡ Some (Card (cardAt bytes (s .first + i - 1)))
+  found-card i h =
+      let pos = within-has i h .0 in
+      let most = within-has i h .1 in
       let d = cardsIn (Some s) (cardsOf bytes) in
       let len = length-map d Card in
       let size = long in

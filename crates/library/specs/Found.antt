@@ -1,7 +1,9 @@
 -- A stretch of a tray's cards.
+use mathlib.Core.Bool.{Bool, _&&_}
 use mathlib.Core.List.{List, []}
 use Prim.Native.Nat.{ℕ, _+_}
 use lib.ListN.{take, drop}
+use lib.Dec.{leb}
 use Rattle.std.specs.declared.option.Option.{Option}
 use Rattle.std.specs.declared.option.Option.the-variants.{Some, None}
 use Rattle.library.specs.declared.stretch.Stretch.{Stretch}
@@ -15,3 +17,7 @@ cardsIn (Some s) cs = take (s .size) (drop (s .first) cs)
 abbrev pub endOf : Option Stretch → ℕ
 endOf None = 0
 endOf (Some s) = s .first + s .size
+
+-- a stretch has a card i, counted from 1
+abbrev pub hasCard : Stretch → ℕ → Bool
+hasCard s i = leb 1 i && leb i (s .size)

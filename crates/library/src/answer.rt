@@ -83,7 +83,7 @@ pub impl Library for Tray as TrayLibrary {
         let Some(found) = self.seek(name) else {
             return CardAnswer::Nothing;
         };
-        if i == 0 || i > found.size {
+        if !found.has(i) {
             return CardAnswer::Nothing;
         }
         let place = found.first + i as usize - 1;

@@ -21,3 +21,6 @@ pub use shelf::CardAnswerEq;
 pub use shelf::CardAnswerPartialEq;
 pub use shelf::Library;
 pub use tray::Tray;
+
+#[cfg(test)]
+mod tests;

@@ -1,14 +1,11 @@
 use borrow.Author.Needs.{needs}
-use native.Mathlib.Omega.{arith}
-use mathlib.Core.List.{map}
+use mathlib.Core.Path.{_≡_}
+use mathlib.Core.Bool.{true, false}
 use Rattle.std.specs.Of.Vec.{vec-items}
-use Rattle.std.specs.Options.{mapped}
 use Rattle.library.specs.Decks.{cardsOf, under}
-use Rattle.library.specs.Held.{heldIn}
-use Rattle.library.specs.Slots.{Card}
-use Rattle.library.proofs.Stretches.{none-found, no-slot-0, found-past, found-card}
+use Rattle.library.specs.Found.{hasCard}
+use Rattle.library.proofs.Stretches.{none-found, found-past, found-card}
 use Rattle.library.proofs.answer.TrayLibrary.card.Needs as need
-use Rattle.library.proofs.answer.TrayLibrary.card.Needs.{then-i-eq0·by·then-i-eq0, then-i-eq0·by·else-i-eq0·then-i-found}
 
 pub returns-in-rest : need.returns-in-rest
 returns-in-rest c =
@@ -16,20 +13,16 @@ returns-in-rest c =
     let none = none-found (under (c .args .name .bytes) (cardsOf bytes)) (c .in-rest .ensures tt .known) in
     record { same = search needs; answer = search needs; filled = search needs }
 
-pub returns-then-i-eq0 : need.returns-then-i-eq0
-returns-then-i-eq0 c =
+pub returns-then-not-has : need.returns-then-not-has
+returns-then-not-has c =
     let bytes = vec-items (c .args .self .now .bytes) in
-    elim (c .then-i-eq0 .came) [
-      | then-i-eq0·by·then-i-eq0 w ↦
-          let none = no-slot-0 (heldIn bytes (c .args .name)) in
-          record { same = search needs; answer = search needs; filled = search needs }
-      | then-i-eq0·by·else-i-eq0·then-i-found w ↦
-          let none = found-past bytes (under (c .args .name .bytes) (cardsOf bytes)) (c .in-Some .found) (c .in-Some .ensures tt .known) (c .in-Some .ensures tt .valid) (c .in-Some .ensures tt .within) (c .args .i) (omega arith) in
-          record { same = search needs; answer = search needs; filled = search needs }
-    ]
+    let out : hasCard (c .in-Some .found) (c .args .i) ≡ false = search needs in
+    let none = found-past bytes (under (c .args .name .bytes) (cardsOf bytes)) (c .in-Some .found) (c .in-Some .ensures tt .known) (c .in-Some .ensures tt .valid) (c .in-Some .ensures tt .within) (c .args .i) out in
+    record { same = search needs; answer = search needs; filled = search needs }
 
 pub returns : need.returns
 returns c =
     let bytes = vec-items (c .args .self .now .bytes) in
-    let read = found-card bytes (under (c .args .name .bytes) (cardsOf bytes)) (c .in-Some .found) (c .in-Some .ensures tt .known) (c .in-Some .ensures tt .valid) (c .in-Some .ensures tt .within) (c .args .i) (omega arith) (omega arith) in
+    let has : hasCard (c .in-Some .found) (c .args .i) ≡ true = search needs in
+    let read = found-card bytes (under (c .args .name .bytes) (cardsOf bytes)) (c .in-Some .found) (c .in-Some .ensures tt .known) (c .in-Some .ensures tt .valid) (c .in-Some .ensures tt .within) (c .args .i) has in
     record { same = search needs; answer = search needs; filled = search needs }
