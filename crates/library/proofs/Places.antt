@@ -7,7 +7,6 @@ use lib.ListN.{length, getD, drop}
 use Rattle.std.proofs.shelf.Lists.{at-drop-more}
 use Rattle.std.specs.declared.option.Option.{Option}
 use Rattle.std.specs.declared.option.Option.the-variants.{Some, None}
-use Rattle.library.specs.declared.shelf.CardAnswer.{CardAnswer}
 use Rattle.library.specs.declared.shelf.CardAnswer.the-variants.{Copied, Flawed, Nothing}
 use Rattle.library.specs.Answers.{answered, filled}
 use Rattle.library.specs.Slots.{Slot, Card, Flaw, at, from1, slotAt, slotsOf, counted}

@@ -17,7 +17,7 @@ use Rattle.library.specs.declared.stretch.Stretch.{Stretch}
 use Rattle.library.specs.Decks.{cardsOf, cardAt, isHeader, isHeaderOf, nameOn, deck}
 use Rattle.library.specs.Faults.{goodSize, goodBehind, goodSizes, trayFault}
 use Rattle.library.specs.Found.{cardsIn, endOf, hasCard}
-use Rattle.library.specs.Slots.{Slot, Card, counted, slotAt, from1}
+use Rattle.library.specs.Slots.{Slot, Card, counted, slotAt}
 use Rattle.library.specs.Sound.{both-0, both-1, sizes-good, size-is}
 use Rattle.library.proofs.Places.{at-within, from1-at, from1-past}
 use Rattle.library.proofs.Trays.{at-card, length-cards, getD-cards}

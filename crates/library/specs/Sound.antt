@@ -1,22 +1,21 @@
 -- A tray without a fault holds decks such as a library may hold.
-use mathlib.Core.Path.{_≡_, refl, sym, ap, _∙_}
+use mathlib.Core.Path.{_≡_, refl, sym}
 use mathlib.Core.Bool.{Bool, cond, true, false, _&&_}
 use mathlib.Core.List.{List, [], _∷_, map}
-use Prim.Native.Nat.{ℕ, zero, suc, _+_, _*_, _/_, _≤_}
+use Prim.Native.Nat.{ℕ, zero, suc, _*_, _/_, _≤_}
 use native.Mathlib.Omega.{arith}
-use lib.ListN.{length, take, drop, length-take, length-drop, length-map}
+use lib.ListN.{length, drop, length-take, length-drop, length-map}
 use lib.Dec.{leb}
 use borrow.Author.Tests.{leb-true}
 use Rattle.std.specs.declared.option.Option.{Option}
 use Rattle.std.specs.declared.option.Option.the-variants.{Some, None}
 use Rattle.std.specs.Options.{isSome, mapped}
 use Rattle.card.specs.declared.name.Name.{Name}
-use Rattle.library.specs.declared.fault.LibraryFault.{LibraryFault}
 use Rattle.library.specs.declared.fault.LibraryFault.the-variants.{BadTrayLength, BadTrayDecks, NameTwice}
-use Rattle.library.specs.Decks.{cards, cardsOf, isHeader, isHeaderOf, nameOn, deck, under, headerNames}
+use Rattle.library.specs.Decks.{cards, cardsOf, isHeader, nameOn, deck, under, headerNames}
 use Rattle.library.specs.Faults.{goodLength, goodStart, goodSize, goodBehind, goodSizes, allApart, trayFault}
 use Rattle.library.specs.Held.{heldIn}
-use Rattle.library.specs.Slots.{Slot, Card, Sound, AllWide}
+use Rattle.library.specs.Slots.{Card, Sound, AllWide}
 use Rattle.std.specs.shelf.Text.{sameBytes}
 
 never : true ≡ false → ⊥

@@ -1,6 +1,6 @@
 -- What a refusal of a library tells.
 use Prim.Native.Nat.{ℕ}
-use Rattle.std.specs.declared.option.Option.the-variants.{Some, None}
+use Rattle.std.specs.declared.option.Option.the-variants.{Some}
 use Rattle.card.specs.declared.refusal.Layer.the-variants as layer
 use Rattle.card.specs.declared.refusal.Refusal.{Refusal}
 use Rattle.card.specs.Names.{blankName, numberOf}

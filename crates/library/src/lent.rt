@@ -1,5 +1,4 @@
 // A library that is lent.
-ghost use mathlib.Core.Path.{_≡_};
 use crate::CardAnswer;
 use crate::Library;
 use card::Name;

@@ -2,7 +2,7 @@ use borrow.Author.Needs.{needs}
 use mathlib.Core.Path.{_≡_}
 use Prim.Native.Nat.{_+_, _-_, _*_}
 use native.Mathlib.Omega.{arith}
-use lib.ListN.{length-take, length-drop, drop}
+use lib.ListN.{length-take, length-drop}
 use Rattle.library.proofs.cards.card_at.Needs as need
 
 pub returns : need.returns
