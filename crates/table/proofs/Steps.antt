@@ -2,7 +2,7 @@
 use mathlib.Core.Path.{_≡_, ap, _∙_}
 use mathlib.Core.List.{List, [], _∷_}
 use Prim.Native.Nat.{ℕ, _+_, _≤_, _<_}
-use lib.ListN.{length, getD, take, drop, length-take}
+use lib.ListN.{length, getD, drop, length-take}
 use native.Mathlib.Omega.{arith}
 use Rattle.std.proofs.shelf.Lists.{at-drop-more, at-drop-all, getD-take}
 use Rattle.table.specs.declared.Count.{Count}

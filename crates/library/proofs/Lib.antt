@@ -1,0 +1,3 @@
+pub mod Places
+mod Trays
+mod Stretches

@@ -1,0 +1,26 @@
+// Libraries of decks: what one is asked, and a tray of cards that answers.
+mod answer;
+mod cards;
+mod check;
+mod fault;
+mod find;
+mod lent;
+mod shelf;
+mod stretch;
+mod tray;
+
+pub use answer::TrayLibrary;
+pub use fault::LibraryFault;
+pub use fault::LibraryFaultDebug;
+pub use fault::LibraryFaultEq;
+pub use fault::LibraryFaultPartialEq;
+pub use lent::LentLibrary;
+pub use shelf::CardAnswer;
+pub use shelf::CardAnswerDebug;
+pub use shelf::CardAnswerEq;
+pub use shelf::CardAnswerPartialEq;
+pub use shelf::Library;
+pub use tray::Tray;
+
+#[cfg(test)]
+mod tests;
