@@ -2,7 +2,7 @@
 ghost use mathlib.Core.Path.{_≡_};
 ghost use mathlib.Core.List.{[]};
 ghost use Prim.Native.Nat.{ℕ, _+_, _/_, _≤_, _<_};
-ghost use lib.ListN.{take};
+ghost use lib.ListN.{length, take};
 ghost use Rattle.card.specs.declared.content.Expected.the-variants.{Ids};
 ghost use Rattle.card.specs.Items.{goodWidth, widthOf, flagSign, afterFlag, constantAt, rldItems};
 ghost use Rattle.card.specs.Contents.{rldSays, says, goodRldCount, rldHeld};
@@ -20,7 +20,8 @@ use crate::refusal::CardFault;
 impl RldCard {
     // The card's items in order.
     pub fn items(&self) -> &[RldItem]
-        ensures { λ r. ⌜ now r ≡ take (now (self .entry) .count) (now (self .entry) .places) ⌝ }
+        ensures value { λ r. ⌜ now r ≡ take (now (self .entry) .count) (now (self .entry) .places) ⌝ }
+        ensures few { λ r. ⌜ length (now r) ≤ 14 ⌝ }
     {
         &self.places[0..self.count]
     }

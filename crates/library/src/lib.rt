@@ -11,16 +11,7 @@ mod tray;
 
 pub use answer::TrayLibrary;
 pub use fault::LibraryFault;
-pub use fault::LibraryFaultDebug;
-pub use fault::LibraryFaultEq;
-pub use fault::LibraryFaultPartialEq;
 pub use lent::LentLibrary;
 pub use shelf::CardAnswer;
-pub use shelf::CardAnswerDebug;
-pub use shelf::CardAnswerEq;
-pub use shelf::CardAnswerPartialEq;
 pub use shelf::Library;
 pub use tray::Tray;
-
-#[cfg(test)]
-mod tests;

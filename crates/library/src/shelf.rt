@@ -8,7 +8,7 @@ ghost use Rattle.library.specs.Answers.{answered, filled};
 use card::Name;
 
 // What a library answers when it is asked for a card.
-#[derive(Clone, Copy, PartialEq, Eq, Debug)]
+#[derive(Clone, Copy)]
 pub enum CardAnswer {
     // The card was copied.
     Copied,

@@ -1,0 +1,31 @@
+// Reading a deck: its cards from a library, judged whole.
+mod bounds;
+mod content;
+mod defined;
+mod fault;
+mod gather;
+mod ids;
+mod overlap;
+mod punched;
+mod resolve;
+mod room;
+mod rules;
+mod scratch;
+
+pub use bounds::ItemCarded;
+pub use bounds::width_of;
+pub use content::Constant;
+pub use content::Deck;
+pub use content::Entry;
+pub use content::Item;
+pub use content::ItemKind;
+pub use content::Text;
+pub use fault::DeckFault;
+pub use fault::DeckFromCard;
+pub use fault::DeckFromLibrary;
+pub use ids::IdRows;
+pub use room::DeckRoom;
+pub use rules::Carded;
+pub use rules::Rule;
+pub use rules::lower;
+pub use rules::worst;
