@@ -1,0 +1,4 @@
+mod Punches
+mod Cells
+mod Ends
+mod Typing
