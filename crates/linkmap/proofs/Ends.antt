@@ -1,6 +1,6 @@
 -- The first line ends at the first newline byte.
 use mathlib.Core.Path.{_≡_, refl, ap, _∙_, sym}
-use mathlib.Core.Bool.{Bool, true, false, cond}
+use mathlib.Core.Bool.{true, false, cond}
 use mathlib.Core.List.{List, [], _∷_}
 use Prim.Native.Nat.{ℕ, suc, _+_, _-_, _<_, _≤_}
 use native.Mathlib.Numerals.{add-one}
@@ -10,12 +10,6 @@ use lib.ListN.{length, take, drop, getD}
 use borrow.Author.Needs.{needs}
 use Rattle.std.proofs.shelf.Lists.{at-drop-more, take-all, drop-all, take-rest}
 use Rattle.linkmap.specs.Lines.{linesOf, inFront, newlineAt}
-
-pub newline-within : (bs : List ℕ) → newlineAt bs ≤ length bs
-newline-within [] = omega arith
-newline-within (b ∷ bs) =
-    let h = newline-within bs in
-    elim (eqb b 10) as (λ t. cond t 0 (suc (newlineAt bs)) ≤ suc (length bs)) [ true ↦ omega arith | false ↦ omega arith ]
 
 pub first-line : (bs : List ℕ) → 0 < length bs → linesOf bs ≡ take (newlineAt bs) bs ∷ linesOf (drop (suc (newlineAt bs)) bs)
 first-line [] h = absurd (omega arith)

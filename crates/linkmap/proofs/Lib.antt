@@ -2,3 +2,4 @@ mod Punches
 mod Cells
 mod Ends
 mod Typing
+mod Spelled

@@ -21,7 +21,7 @@ abbrev there : ℕ → ℕ → Bool
 there b x = eqb (shown b) 46 || is (punchOf (shown b)) b
 
 -- a byte below 256 that prints as c, which is no full stop
-abbrev prints : Option ℕ → ℕ → Bool
+abbrev pub prints : Option ℕ → ℕ → Bool
 prints None c = true
 prints (Some b) c = ltb b 256 && (eqb (shown b) c && not (eqb c 46))
 
@@ -47,7 +47,7 @@ rest false b t = absurd t
 differs : (m n : ℕ) → T (not (eqb m n)) → m ≡ n → ⊥
 differs m n t e = search needs
 
-printing : (b c : ℕ) → T (prints (Some b) c) → Prints b c
+pub printing : (b c : ℕ) → T (prints (Some b) c) → Prints b c
 printing b c t =
     let u = rest (ltb b 256) (eqb (shown b) c && not (eqb c 46)) t in
     record {
@@ -60,8 +60,11 @@ is-none : (o : Option ℕ) (c : ℕ) → T (prints o c) → Unprintable c → No
 is-none None c t h = refl
 is-none (Some b) c t h = absurd (h b (printing b c t))
 
+pub punch-prints : (c : ℕ) → c < 256 → T (prints (punchOf c) c)
+punch-prints c h = entry back (replicate 256 0) tt c h
+
 pub punched-is : (c : ℕ) (r : Option ℕ) → c < 256 → Cases r (Unprintable c) (λ b. Prints b c) → r ≡ punchOf c
-punched-is c None h p = is-none (punchOf c) c (entry back (replicate 256 0) tt c h) p
+punched-is c None h p = is-none (punchOf c) c (punch-prints c h) p
 punched-is c (Some b) h p =
     is-some (punchOf c) b
     (second (eqb c 46) (is (punchOf c) b) (λ t. p .no-stop (eqb→eq c 46 t))

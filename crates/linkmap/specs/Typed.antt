@@ -1,15 +1,17 @@
 -- What a typed line asks for.
+use mathlib.Core.Path.{_≡_}
 use mathlib.Core.Bool.{cond}
-use mathlib.Core.List.{List, [], _∷_}
+use mathlib.Core.List.{List, [], _∷_, _++_}
 use Prim.Native.Nat.{ℕ, _+_, _-_}
 use lib.Dec.{eqb, leb}
-use lib.ListN.{length, set}
+use lib.ListN.{length, set, replicate}
 use Rattle.std.specs.Options.{mapped}
 use Rattle.std.specs.declared.option.Option.{Option}
 use Rattle.std.specs.declared.option.Option.the-variants.{Some, None}
 use Rattle.card.specs.declared.name.Name.{Name}
 use Rattle.card.specs.Names.{blankName}
 use Rattle.card.specs.Shown.{within}
+use Rattle.linkmap.specs.Text.{nameText}
 use Rattle.linkmap.specs.declared.command.Command.{Command}
 use Rattle.linkmap.specs.declared.command.Command.the-variants.{Include, Entry, Calls, Fix, FixOpen, Map}
 
@@ -60,3 +62,20 @@ letterCommand letter rest =
 abbrev pub commandOf : List ℕ → Option Command
 commandOf [] = None
 commandOf (letter ∷ rest) = letterCommand letter rest
+
+-- characters with blanks behind them, eight in all
+abbrev pub filled : List ℕ → List ℕ
+filled cs = cs ++ replicate (8 - length cs) 32
+
+-- a line is a letter, one blank and characters, and the name prints as these, filled with blanks
+abbrev pub Names : ℕ → List ℕ → Name → Type 0
+Names letter line name = (cs : List ℕ) × (line ≡ letter ∷ 32 ∷ cs) × (nameText name ≡ filled cs)
+
+-- the command is what the line says
+abbrev pub Says : List ℕ → Command → Type 0
+Says line (Include name) = Names 73 line name
+Says line (Entry name) = Names 69 line name
+Says line Calls = line ≡ 67 ∷ []
+Says line Fix = line ≡ 70 ∷ []
+Says line FixOpen = line ≡ 76 ∷ []
+Says line Map = line ≡ 77 ∷ []

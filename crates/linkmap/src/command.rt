@@ -2,7 +2,7 @@
 ghost use mathlib.Core.Path.{_≡_};
 ghost use Rattle.std.specs.Options.{Cases as BySome};
 ghost use Rattle.card.specs.Shown.{Unprintable, Prints};
-ghost use Rattle.linkmap.specs.Typed.{punchOf, nameOf, nameAfter, alone, letterCommand, commandOf};
+ghost use Rattle.linkmap.specs.Typed.{punchOf, nameOf, nameAfter, alone, letterCommand, commandOf, Says};
 use card::Name;
 
 #[derive(Clone, Copy)]
@@ -73,7 +73,8 @@ fn letter_command(letter: char, rest: &[u8]) -> Option<Command>
 
 // The command that a line asks for, if any.
 pub fn command_of(line: &[u8]) -> Option<Command>
-    ensures { λ r. ⌜ r ≡ commandOf (now (line .entry)) ⌝ }
+    ensures value { λ r. ⌜ r ≡ commandOf (now (line .entry)) ⌝ }
+    ensures says { λ r. ⌜ BySome r (Unit {0}) (Says (now (line .entry))) ⌝ }
 {
     let [letter, rest @ ..] = line else {
         return None;

@@ -1,10 +1,9 @@
 use borrow.Author.Needs.{needs}
 use mathlib.Core.Path.{_≡_, ap}
-use mathlib.Core.List.{List, map}
-use Prim.Native.Nat.{ℕ}
+use mathlib.Core.List.{map}
 use lib.ListN.{length}
 use Rattle.card.specs.Shown.{shown}
-use Rattle.linkmap.proofs.Cells.{cells, cells-are}
+use Rattle.linkmap.proofs.Cells.{cells-are}
 use Rattle.linkmap.proofs.row.name_text.Needs as need
 
 pub returns : need.returns
