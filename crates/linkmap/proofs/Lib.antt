@@ -1,0 +1,5 @@
+mod Punches
+mod Cells
+mod Ends
+mod Typing
+mod Spelled

@@ -1,0 +1,15 @@
+use mathlib.Core.Path.{_≡_, sym, subst}
+use borrow.Author.Needs.{needs}
+use Rattle.std.specs.declared.option.Option.{Option}
+use Rattle.linkmap.specs.declared.command.Command.{Command}
+use Rattle.linkmap.specs.Typed.{commandOf, Says}
+use Rattle.linkmap.proofs.Spelled.{Bytes, Given, line-says}
+use Rattle.linkmap.proofs.Typing.{by-letter}
+use Rattle.linkmap.proofs.command.command_of.Needs as need
+
+pub returns : need.returns
+returns c =
+    let line = c .args .line .now in
+    let e : c .letter-command .result ≡ commandOf line = search (needs, by-letter) in
+    let bytes : Bytes line = λ i. let f = c .typed .line i in search needs in
+    record { value = e; says = subst (λ (o : Option Command). Given o (Says line)) (sym e) (line-says line bytes) }
