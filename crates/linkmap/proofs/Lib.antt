@@ -1,5 +1,4 @@
 mod Punches
 mod Cells
-mod Ends
 mod Typing
 mod Spelled

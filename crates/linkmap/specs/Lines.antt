@@ -1,20 +1,14 @@
--- The lines of an input.
-use mathlib.Core.Bool.{cond}
-use mathlib.Core.List.{List, [], _∷_}
-use Prim.Native.Nat.{ℕ, suc}
-use lib.Dec.{eqb}
+-- A typed line.
+use mathlib.Core.Bool.{Bool, cond, _&&_}
+use mathlib.Core.List.{List}
+use Prim.Native.Nat.{ℕ, _-_}
+use lib.Dec.{eqb, ltb}
+use lib.ListN.{length, getD, take}
 
--- a byte in front of the first line
-abbrev pub inFront : ℕ → List (List ℕ) → List (List ℕ)
-inFront b [] = (b ∷ []) ∷ []
-inFront b (line ∷ lines) = (b ∷ line) ∷ lines
+-- the last byte is a newline; an empty line has none
+abbrev pub endsInNewline : List ℕ → Bool
+endsInNewline line = ltb 0 (length line) && eqb (getD line (length line - 1) 0) 10
 
--- the lines of an input: each ends at a newline byte, the last one also where the input ends; an empty input has none
-abbrev pub linesOf : List ℕ → List (List ℕ)
-linesOf [] = []
-linesOf (b ∷ bs) = cond (eqb b 10) ([] ∷ linesOf bs) (inFront b (linesOf bs))
-
--- the place of the first newline byte; the length where there is none
-abbrev pub newlineAt : List ℕ → ℕ
-newlineAt [] = 0
-newlineAt (b ∷ bs) = cond (eqb b 10) 0 (suc (newlineAt bs))
+-- a line as it was read, without the newline byte at its end; the last line of an input may have none
+abbrev pub withoutNewline : List ℕ → List ℕ
+withoutNewline line = cond (endsInNewline line) (take (length line - 1) line) line

@@ -6,15 +6,15 @@ use lib.Dec.{ltb}
 use lib.Chars.{codes}
 use Rattle.card.specs.declared.name.Name.{Name}
 use Rattle.card.specs.Shown.{shown}
-use Rattle.linkmap.specs.declared.row.Kind.{Kind}
-use Rattle.linkmap.specs.declared.row.Kind.the-variants.{Section, Private, Label, Common, Strong, Weak}
-use Rattle.linkmap.specs.declared.row.Row.{Row}
+use Rattle.link.specs.declared.maplines.MapKind.{MapKind}
+use Rattle.link.specs.declared.maplines.MapKind.the-variants.{Section, Private, Label, Common, Strong, Weak}
+use Rattle.link.specs.declared.maplines.MapLine.{MapLine}
 
 -- the characters that a name's bytes print as
 abbrev pub nameText : Name → List ℕ
 nameText name = map shown (name .bytes)
 
-abbrev pub kindText : Kind → List ℕ
+abbrev pub kindText : MapKind → List ℕ
 kindText Section = codes "SD"
 kindText Private = codes "PC"
 kindText Label = codes "LR"
@@ -36,7 +36,7 @@ abbrev pub twoDigits : ℕ → List ℕ
 twoDigits n = (48 + n / 10 % 10) ∷ (48 + n % 10) ∷ []
 
 -- a row of the map: name, kind, address and length, a blank between
-abbrev pub rowText : Row → List ℕ
+abbrev pub rowText : MapLine → List ℕ
 rowText row = nameText (row .name) ++ (32 ∷ (kindText (row .kind) ++ (32 ∷ (hexText (row .address) ++ (32 ∷ hexText (row .length))))))
 
 abbrev pub entryText : ℕ → List ℕ

@@ -1,43 +1,22 @@
-// Standard input, read whole, and its lines.
+// Reading standard input line by line, whatever bytes it holds.
 ghost use mathlib.Core.Path.{_≡_};
-ghost use mathlib.Core.List.{[], _∷_};
-ghost use lib.ListN.{length};
-ghost use Prim.Native.Nat.{_<_};
-ghost use Rattle.std.specs.Options.{Cases as BySome};
-ghost use Rattle.linkmap.specs.Lines.{linesOf, newlineAt};
-use std::io;
-use std::io::Read;
+ghost use Rattle.linkmap.specs.Lines.{endsInNewline, withoutNewline};
 
-// Every byte of standard input.
-pub fn read_all(rt: &LibcRuntime) -> io::Result<Vec<u8>> {
-    let mut bytes = Vec::new(rt.alloc());
-    let _ = rt.stdin().read_to_end(&mut bytes)?;
-    Ok(bytes)
+fn ends_in_newline(line: &[u8]) -> bool
+    ensures { λ r. ⌜ r ≡ endsInNewline (now (line .entry)) ⌝ }
+{
+    if line.len() == 0 {
+        return false;
+    }
+    line[line.len() - 1] == b'\n'
 }
 
-// The place of the first newline byte; the length where there is none.
-fn newline_at(bytes: &[u8]) -> usize
-    ensures { λ r. ⌜ r ≡ newlineAt (now (bytes .entry)) ⌝ }
+// A line without the newline byte at its end.
+pub fn without_newline(line: &[u8]) -> &[u8]
+    ensures { λ r. ⌜ now r ≡ withoutNewline (now (line .entry)) ⌝ }
 {
-    for i in 0..bytes.len() {
-        if bytes[i] == b'\n' {
-            return i;
-        }
+    if !ends_in_newline(line) {
+        return line;
     }
-    bytes.len()
-}
-
-// The first line, without its newline byte, and what follows it; none where no byte is left.
-pub fn next_line(bytes: &[u8]) -> Option<(&[u8], &[u8])>
-    ensures lines { λ r. ⌜ BySome r (linesOf (now (bytes .entry)) ≡ []) (λ p. linesOf (now (bytes .entry)) ≡ now (p .0) ∷ linesOf (now (p .1))) ⌝ }
-    ensures shorter { λ r. ⌜ BySome r (length (now (bytes .entry)) ≡ 0) (λ p. length (now (p .1)) < length (now (bytes .entry))) ⌝ }
-{
-    if bytes.is_empty() {
-        return None;
-    }
-    let end = newline_at(bytes);
-    if end >= bytes.len() {
-        return Some((bytes, &[]));
-    }
-    Some((&bytes[..end], &bytes[end + 1..]))
+    &line[0..line.len() - 1]
 }

@@ -1,39 +1,86 @@
-// LINKMAP: links decks as typed lines ask, and prints the map.
+// LINKMAP: links decks from the tray in tray.bin as typed lines ask, and prints the map.
+ghost use mathlib.Core.Path.{_≡_};
+
 mod command;
 mod input;
 mod row;
+mod session;
 #[cfg(test)]
 mod tests;
 
-use command::command_of;
-use input::next_line;
-use input::read_all;
-use row::what_text;
+use input::without_newline;
+use library::LibraryFault;
+use library::Tray;
+use link::Area;
+use link::Link;
+use link::Room;
+use session::IdTable;
+use session::Session;
+use session::print_refused;
+use std::fs;
 use std::io;
+use std::io::BufRead;
+use std::io::BufReader;
+use library::TrayLibrary;
 
-// Prints characters, and ends their line.
-fn print_line(rt: &LibcRuntime, text: &[u8]) -> io::Result<()> {
-    rt.write_all(text)?;
-    rt.write_all(b"\n")
+// The largest tray file that is read as a tray.
+const MAX_FILE: usize = 40_000;
+
+// Where the program is linked to.
+const ORIGIN: u32 = 0;
+
+const SIZE: u32 = 16_384;
+
+fn open_tray(bytes: Vec<u8>) -> Result<Tray, LibraryFault> {
+    if bytes.len() > MAX_FILE {
+        return Err(LibraryFault::BadTrayLength);
+    }
+    Tray::open(bytes)
 }
 
-fn serve(rt: &LibcRuntime, line: &[u8]) -> io::Result<()> {
-    match command_of(line) {
-        Some(_) => Ok(()),
-        None => print_line(rt, &what_text()),
+// Answers the lines of standard input, one after the other.
+fn converse(rt: &LibcRuntime, opened: Session) -> (Session, io::Result<()>) {
+    let mut session = opened;
+    let mut ids = IdTable::new();
+    let mut input = BufReader::new(rt.stdin());
+    let mut line = Vec::new(rt.alloc());
+    for _ in 0..u64::MAX {
+        line.clear();
+        match input.read_until(b'\n', &mut line) {
+            Ok(0) => break,
+            Ok(_) => {}
+            Err(e) => return (session, Err(e)),
+        }
+        let (next, done) = session.serve(rt, &mut ids, without_newline(line.as_slice()));
+        session = next;
+        if let Err(e) = done {
+            return (session, Err(e));
+        }
     }
+    (session, Ok(()))
 }
 
-fn run(rt: &LibcRuntime) -> io::Result<()> {
-    let input = read_all(rt)?;
-    let mut rest = input.as_slice();
-    while let Some((line, after)) = next_line(rest) {
-        serve(rt, line)?;
-        rest = after;
-    }
-    Ok(())
+fn run(rt: &LibcRuntime, bytes: Vec<u8>) -> io::Result<()> {
+    let tray = match open_tray(bytes) {
+        Ok(tray) => tray,
+        Err(fault) => return print_refused(rt, fault.refusal()),
+    };
+    let area = match Area::new(Some(ORIGIN), SIZE) {
+        Ok(area) => area,
+        Err(fault) => return print_refused(rt, fault.refusal()),
+    };
+    let room = Room::new(rt.alloc())?;
+    let (session, done) = converse(rt, Session::Gathering(Link::open(tray, area, room)));
+    let _ = session.scrap();
+    done
 }
 
 fn main(rt: LibcRuntime) -> io::Result<()> {
-    run(&rt)
+    match fs::read(&rt, "tray.bin") {
+        Ok(bytes) => run(&rt, bytes),
+        Err(e) => {
+            eprintln!(rt, "linkmap: the tray in tray.bin cannot be read: {e}")?;
+            Err(e)
+        }
+    }
 }

@@ -4,38 +4,20 @@ ghost use lib.Chars.{codes};
 ghost use Rattle.linkmap.specs.Text.{nameText, kindText, hexDigit, hexText, rowText, entryText, refusedText};
 use card::Name;
 use card::shown;
+use link::MapKind;
+use link::MapLine;
 
-#[derive(Clone, Copy)]
-pub enum Kind {
-    Section,
-    Private,
-    Label,
-    Common,
-    Strong,
-    Weak,
-}
-
-// One row of the map.
-#[derive(Clone, Copy)]
-pub struct Row {
-    pub name: Name,
-    pub kind: Kind,
-    pub address: u32,
-    pub length: u32,
-}
-
-impl Kind {
-    fn text(self) -> [u8; 2]
-        ensures { λ r. ⌜ r ≡ kindText self ⌝ }
-    {
-        match self {
-            Kind::Section => *b"SD",
-            Kind::Private => *b"PC",
-            Kind::Label => *b"LR",
-            Kind::Common => *b"CM",
-            Kind::Strong => *b"ER",
-            Kind::Weak => *b"WX",
-        }
+// The two letters of a kind.
+fn kind_text(kind: MapKind) -> [u8; 2]
+    ensures { λ r. ⌜ r ≡ kindText kind ⌝ }
+{
+    match kind {
+        MapKind::Section => *b"SD",
+        MapKind::Private => *b"PC",
+        MapKind::Label => *b"LR",
+        MapKind::Common => *b"CM",
+        MapKind::Strong => *b"ER",
+        MapKind::Weak => *b"WX",
     }
 }
 
@@ -82,43 +64,41 @@ pub fn hex6(n: u32) -> [u8; 6]
     ]
 }
 
-impl Row {
-    // Name, kind, address and length, a blank between.
-    pub fn text(&self) -> [u8; 25]
-        ensures { λ r. ⌜ r ≡ rowText (now (self .entry)) ⌝ }
-    {
-        let name = name_text(self.name);
-        let kind = self.kind.text();
-        let address = hex6(self.address);
-        let length = hex6(self.length);
-        [
-            name[0],
-            name[1],
-            name[2],
-            name[3],
-            name[4],
-            name[5],
-            name[6],
-            name[7],
-            b' ',
-            kind[0],
-            kind[1],
-            b' ',
-            address[0],
-            address[1],
-            address[2],
-            address[3],
-            address[4],
-            address[5],
-            b' ',
-            length[0],
-            length[1],
-            length[2],
-            length[3],
-            length[4],
-            length[5],
-        ]
-    }
+// A row of the map: name, kind, address and length, a blank between.
+pub fn row_text(line: MapLine) -> [u8; 25]
+    ensures { λ r. ⌜ r ≡ rowText line ⌝ }
+{
+    let name = name_text(line.name);
+    let kind = kind_text(line.kind);
+    let address = hex6(line.address);
+    let length = hex6(line.length);
+    [
+        name[0],
+        name[1],
+        name[2],
+        name[3],
+        name[4],
+        name[5],
+        name[6],
+        name[7],
+        b' ',
+        kind[0],
+        kind[1],
+        b' ',
+        address[0],
+        address[1],
+        address[2],
+        address[3],
+        address[4],
+        address[5],
+        b' ',
+        length[0],
+        length[1],
+        length[2],
+        length[3],
+        length[4],
+        length[5],
+    ]
 }
 
 // The line that tells where the program begins.

@@ -1,12 +1,13 @@
 // Lines that are commands, lines that are none, and lines that are printed.
 use crate::command::Command;
 use crate::command::command_of;
-use crate::input::next_line;
-use crate::row::Kind;
-use crate::row::Row;
+use crate::input::without_newline;
 use crate::row::entry_text;
 use crate::row::refused_text;
+use crate::row::row_text;
 use card::Name;
+use link::MapKind;
+use link::MapLine;
 use std::test::*;
 
 // The letter of a line's command, and its name as a number, blank where it has none.
@@ -65,26 +66,30 @@ fn no_commands() -> Result<(), Fail> {
 
 #[test]
 fn printed() -> Result<(), Fail> {
-    let row = Row {
+    let row = MapLine {
         name: Name {
             bytes: [0xD4, 0xC1, 0xC9, 0xD5, 0x40, 0x40, 0x00, 0xF1],
         },
-        kind: Kind::Section,
+        kind: MapKind::Section,
         address: 0x00_9ABC,
         length: 0x01DE_F012,
     };
-    check_eq(row.text(), *b"MAIN  .1 SD 009ABC DEF012")?;
+    check_eq(row_text(row), *b"MAIN  .1 SD 009ABC DEF012")?;
     check_eq(entry_text(0x12_3456), *b"ENTRY 123456")?;
     check_eq(refused_text(7), *b"REFUSED 07")
 }
 
 #[test]
 fn lines() -> Result<(), Fail> {
-    let mut rest = "\nA\r\n\nB".as_bytes();
-    for line in ["", "A\r", "", "B"] {
-        let (found, after) = next_line(rest).ok_or("no line")?;
-        check_eq(found, line.as_bytes())?;
-        rest = after;
+    for (read, line) in [
+        ("A\n", "A"),
+        ("A", "A"),
+        ("\n", ""),
+        ("", ""),
+        ("A\r\n", "A\r"),
+        ("\n\n", "\n"),
+    ] {
+        check_eq(without_newline(read.as_bytes()), line.as_bytes())?;
     }
-    check(next_line(rest).is_none())
+    Ok(())
 }
