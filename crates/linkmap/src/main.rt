@@ -1,16 +1,11 @@
 // LINKMAP: links decks from the tray in tray.bin as typed lines ask, and prints the map.
-ghost use mathlib.Core.Path.{_≡_};
 
-mod command;
-mod input;
-mod row;
 mod session;
-#[cfg(test)]
-mod tests;
 
-use input::without_newline;
+use console::without_newline;
 use library::LibraryFault;
 use library::Tray;
+use library::TrayLibrary;
 use link::Area;
 use link::Link;
 use link::Room;
@@ -21,7 +16,6 @@ use std::fs;
 use std::io;
 use std::io::BufRead;
 use std::io::BufReader;
-use library::TrayLibrary;
 
 // The largest tray file that is read as a tray.
 const MAX_FILE: usize = 40_000;

@@ -1,12 +1,12 @@
 // A session: a link that gathers decks as lines ask, and then the program that it was fixed into.
-use crate::command::Command;
-use crate::command::command_of;
-use crate::row::entry_text;
-use crate::row::refused_text;
-use crate::row::row_text;
-use crate::row::what_text;
 use card::Name;
 use card::Refusal;
+use console::Command;
+use console::command_of;
+use console::entry_text;
+use console::refused_text;
+use console::row_text;
+use console::what_text;
 use deck::IdRows;
 use library::Tray;
 use library::TrayLibrary;

@@ -1,6 +1,6 @@
 use borrow.Author.Needs.{needs}
-use Rattle.linkmap.proofs.Punches.{punched-is}
-use Rattle.linkmap.proofs.command.punch_of.Needs as need
+use Rattle.console.proofs.Punches.{punched-is}
+use Rattle.console.proofs.command.punch_of.Needs as need
 
 pub returns : need.returns
 returns c =

@@ -12,7 +12,7 @@ use Rattle.std.specs.declared.option.Option.{Option}
 use Rattle.std.specs.declared.option.Option.the-variants.{Some, None}
 use Rattle.card.specs.declared.name.Name.{Name}
 use Rattle.card.specs.Names.{blankName}
-use Rattle.linkmap.specs.Typed.{punchOf, punchedOver, nameOf, nameAfter, letterCommand, commandOf}
+use Rattle.console.specs.Typed.{punchOf, punchedOver, nameOf, nameAfter, letterCommand, commandOf}
 
 abbrev onward : List ℕ → ℕ → List ℕ → Option ℕ → Option Name
 onward bytes i cs o = elim o [ None ↦ None | Some b ↦ punchedOver (set bytes i b) (i + 1) (drop (i + 1) cs) ]

@@ -11,9 +11,9 @@ use Rattle.std.specs.declared.option.Option.the-variants.{Some, None}
 use Rattle.card.specs.declared.name.Name.{Name}
 use Rattle.card.specs.Names.{blankName}
 use Rattle.card.specs.Shown.{within}
-use Rattle.linkmap.specs.Text.{nameText}
-use Rattle.linkmap.specs.declared.command.Command.{Command}
-use Rattle.linkmap.specs.declared.command.Command.the-variants.{Include, Entry, Calls, Fix, FixOpen, Map}
+use Rattle.console.specs.Text.{nameText}
+use Rattle.console.specs.declared.command.Command.{Command}
+use Rattle.console.specs.declared.command.Command.the-variants.{Include, Entry, Calls, Fix, FixOpen, Map}
 
 -- the byte that prints as a character: A to I, J to R, S to Z, 0 to 9, @, #, $ and the blank; no other has one
 abbrev pub punchOf : ℕ → Option ℕ

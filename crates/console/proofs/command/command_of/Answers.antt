@@ -1,11 +1,11 @@
 use mathlib.Core.Path.{_≡_, sym, subst}
 use borrow.Author.Needs.{needs}
 use Rattle.std.specs.declared.option.Option.{Option}
-use Rattle.linkmap.specs.declared.command.Command.{Command}
-use Rattle.linkmap.specs.Typed.{commandOf, Says}
-use Rattle.linkmap.proofs.Spelled.{Bytes, Given, line-says}
-use Rattle.linkmap.proofs.Typing.{by-letter}
-use Rattle.linkmap.proofs.command.command_of.Needs as need
+use Rattle.console.specs.declared.command.Command.{Command}
+use Rattle.console.specs.Typed.{commandOf, Says}
+use Rattle.console.proofs.Spelled.{Bytes, Given, line-says}
+use Rattle.console.proofs.Typing.{by-letter}
+use Rattle.console.proofs.command.command_of.Needs as need
 
 pub returns : need.returns
 returns c =

@@ -3,8 +3,8 @@ use mathlib.Core.Path.{_≡_, ap}
 use mathlib.Core.List.{map}
 use lib.ListN.{length}
 use Rattle.card.specs.Shown.{shown}
-use Rattle.linkmap.proofs.Cells.{cells-are}
-use Rattle.linkmap.proofs.row.name_text.Needs as need
+use Rattle.console.proofs.Cells.{cells-are}
+use Rattle.console.proofs.row.name_text.Needs as need
 
 pub returns : need.returns
 returns c =

@@ -2,7 +2,7 @@
 ghost use mathlib.Core.Path.{_≡_};
 ghost use Rattle.std.specs.Options.{Cases as BySome};
 ghost use Rattle.card.specs.Shown.{Unprintable, Prints};
-ghost use Rattle.linkmap.specs.Typed.{punchOf, nameOf, nameAfter, alone, letterCommand, commandOf, Says};
+ghost use Rattle.console.specs.Typed.{punchOf, nameOf, nameAfter, alone, letterCommand, commandOf, Says};
 use card::Name;
 
 #[derive(Clone, Copy)]

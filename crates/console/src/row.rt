@@ -1,7 +1,7 @@
 // The lines that are printed, as ASCII characters.
 ghost use mathlib.Core.Path.{_≡_};
 ghost use lib.Chars.{codes};
-ghost use Rattle.linkmap.specs.Text.{nameText, kindText, hexDigit, hexText, rowText, entryText, refusedText};
+ghost use Rattle.console.specs.Text.{nameText, kindText, hexDigit, hexText, rowText, entryText, refusedText};
 use card::Name;
 use card::shown;
 use link::MapKind;

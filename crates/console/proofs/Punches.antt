@@ -10,7 +10,7 @@ use Rattle.std.specs.declared.option.Option.{Option}
 use Rattle.std.specs.declared.option.Option.the-variants.{Some, None}
 use Rattle.card.specs.Shown.{shown, Unprintable, Prints}
 use Rattle.card.proofs.Table.{entry}
-use Rattle.linkmap.specs.Typed.{punchOf}
+use Rattle.console.specs.Typed.{punchOf}
 
 abbrev is : Option ℕ → ℕ → Bool
 is None b = false

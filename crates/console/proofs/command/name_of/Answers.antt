@@ -1,9 +1,9 @@
 use mathlib.Core.Path.{_∙_, sym}
 use Rattle.std.proofs.shelf.Lists.{at-drop-all}
 use Rattle.std.specs.declared.option.Option.the-variants.{Some, None}
-use Rattle.linkmap.specs.Typed.{punchedOver}
-use Rattle.linkmap.proofs.Typing.{turn, name-fits}
-use Rattle.linkmap.proofs.command.name_of.Needs as need
+use Rattle.console.specs.Typed.{punchedOver}
+use Rattle.console.proofs.Typing.{turn, name-fits}
+use Rattle.console.proofs.command.name_of.Needs as need
 
 pub returns-in-rest : need.returns-in-rest
 returns-in-rest c =

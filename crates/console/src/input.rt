@@ -1,6 +1,6 @@
 // Reading standard input line by line, whatever bytes it holds.
 ghost use mathlib.Core.Path.{_≡_};
-ghost use Rattle.linkmap.specs.Lines.{endsInNewline, withoutNewline};
+ghost use Rattle.console.specs.Lines.{endsInNewline, withoutNewline};
 
 fn ends_in_newline(line: &[u8]) -> bool
     ensures { λ r. ⌜ r ≡ endsInNewline (now (line .entry)) ⌝ }

@@ -14,11 +14,11 @@ use Rattle.std.specs.declared.option.Option.the-variants.{Some, None}
 use Rattle.card.specs.declared.name.Name.{Name}
 use Rattle.card.specs.Names.{blankName}
 use Rattle.card.specs.Shown.{shown}
-use Rattle.linkmap.specs.declared.command.Command.{Command}
-use Rattle.linkmap.specs.declared.command.Command.the-variants.{Include, Entry, Calls, Fix, FixOpen, Map}
-use Rattle.linkmap.specs.Text.{nameText}
-use Rattle.linkmap.specs.Typed.{punchOf, punchedOver, nameOf, nameAfter, alone, letterCommand, commandOf, filled, Names, Says}
-use Rattle.linkmap.proofs.Punches.{prints, printing, punch-prints}
+use Rattle.console.specs.declared.command.Command.{Command}
+use Rattle.console.specs.declared.command.Command.the-variants.{Include, Entry, Calls, Fix, FixOpen, Map}
+use Rattle.console.specs.Text.{nameText}
+use Rattle.console.specs.Typed.{punchOf, punchedOver, nameOf, nameAfter, alone, letterCommand, commandOf, filled, Names, Says}
+use Rattle.console.proofs.Punches.{prints, printing, punch-prints}
 
 abbrev pub Bytes : List ℕ → Type 0
 Bytes cs = (i : ℕ) → getD cs i 0 < 256

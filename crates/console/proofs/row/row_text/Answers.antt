@@ -3,9 +3,9 @@ use mathlib.Core.List.{List}
 use Prim.Native.Nat.{ℕ}
 use lib.ListN.{length}
 use borrow.Author.Needs.{needs}
-use Rattle.linkmap.specs.Text.{nameText, kindText, hexText}
-use Rattle.linkmap.proofs.Cells.{parted, parted-cells}
-use Rattle.linkmap.proofs.row.row_text.Needs as need
+use Rattle.console.specs.Text.{nameText, kindText, hexText}
+use Rattle.console.proofs.Cells.{parted, parted-cells}
+use Rattle.console.proofs.row.row_text.Needs as need
 
 pub returns : need.returns
 returns c =
