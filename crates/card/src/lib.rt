@@ -13,7 +13,6 @@ mod txt;
 pub use charset::punched;
 pub use charset::shown;
 pub use content::Card;
-pub use content::CardKind;
 pub use content::EndCard;
 pub use content::EndEntry;
 pub use content::EsdCard;

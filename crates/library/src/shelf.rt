@@ -7,17 +7,6 @@ ghost use Rattle.library.specs.Slots.{Slot, Sound, counted, slotAt};
 ghost use Rattle.library.specs.Answers.{answered, filled};
 use card::Name;
 
-// What a library answers when it is asked for a card.
-#[derive(Clone, Copy)]
-pub enum CardAnswer {
-    // The card was copied.
-    Copied,
-    // The card cannot be read: its mark.
-    Flawed(u8),
-    // There is no such card.
-    Nothing,
-}
-
 pub trait Library {
     // What the library holds under each name. Asking does not change it.
     ghost meaning: { Self → Name → Option (List Slot) };
@@ -35,4 +24,15 @@ pub trait Library {
         ensures same { λ _. ⌜ meaning (now (self .exit)) ≡ meaning (now (self .entry)) ⌝ }
         ensures answer { λ r. ⌜ r ≡ answered (slotAt (meaning (now (self .entry)) name) i) ⌝ }
         ensures filled { λ _. ⌜ now (into .exit) ≡ filled (slotAt (meaning (now (self .entry)) name) i) (now (into .entry)) ⌝ };
+}
+
+// What a library answers when it is asked for a card.
+#[derive(Clone, Copy)]
+pub enum CardAnswer {
+    // The card was copied.
+    Copied,
+    // The card cannot be read: its mark.
+    Flawed(u8),
+    // There is no such card.
+    Nothing,
 }

@@ -143,7 +143,7 @@ impl Room {
         }
     }
 
-    // Drafts the dictionary with the deck's lines; refused by the 257th deck and by lines over 1,024.
+    // Drafts the dictionary with the deck's lines; refused where they would be over 1,024.
     fn redraft(&mut self, deck: u64) -> Result<(), LinkFault>
         ensures { λ _. ⌜ roomView (now (self .exit)) ≡ roomView (now (self .entry)) ⌝ }
     {
@@ -237,7 +237,7 @@ impl<L: Library> Link<L> {
         }
     }
 
-    // Takes the deck that was read, or refuses it and changes nothing.
+    // Takes the deck that was read, or refuses it and changes nothing; the 257th is refused last.
     fn take(&mut self, deck: u64) -> Result<(), LinkFault>
         ensures refused { λ r. ⌜ (isOk r ≡ false → viewOf (now (self .exit)) ≡ viewOf (now (self .entry))) ⌝ }
         ensures library { λ _. ⌜ now (self .exit) .library ≡ now (self .entry) .library ⌝ }

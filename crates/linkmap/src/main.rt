@@ -1,5 +1,10 @@
 // LINKMAP: links decks from the tray in tray.bin as typed lines ask, and prints the map.
 
+ghost use mathlib.Core.Path.{_≡_};
+ghost use Rattle.std.specs.Of.Vec.{vec-items};
+ghost use Rattle.std.specs.Results.{Cases};
+ghost use Rattle.std.specs.declared.option.Option.the-variants.{Some, None};
+ghost use Rattle.linkmap.specs.Files.{fileFault};
 mod session;
 
 use console::without_newline;
@@ -25,7 +30,10 @@ const ORIGIN: u32 = 0;
 
 const SIZE: u32 = 16_384;
 
-fn open_tray(bytes: Vec<u8>) -> Result<Tray, LibraryFault> {
+// The tray of a file, or the first rule that the file breaks.
+fn open_tray(bytes: Vec<u8>) -> Result<Tray, LibraryFault>
+    ensures { λ r. ⌜ Cases r (λ t. (fileFault (vec-items bytes) ≡ None) × (t .bytes ≡ bytes)) (λ f. fileFault (vec-items bytes) ≡ Some f) ⌝ }
+{
     if bytes.len() > MAX_FILE {
         return Err(LibraryFault::BadTrayLength);
     }
