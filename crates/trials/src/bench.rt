@@ -1,10 +1,6 @@
 // A bench: trays are opened, linked step by step and fixed, and what was answered is kept.
 use crate::names::name;
-use crate::punch::Card;
-use crate::punch::Deck;
-use crate::punch::add_deck;
 use card::Layer;
-use card::Name;
 use card::Refusal;
 use deck::IdRows;
 use library::Library;
@@ -117,6 +113,14 @@ pub(crate) fn telling(number: u8, deck: &str, card: u16) -> Told {
         card,
         layer: layer_of(number),
         mark: None,
+    }
+}
+
+// What a flawed card's include has to tell.
+pub(crate) fn telling_mark(deck: &str, card: u16, mark: u8) -> Told {
+    Told {
+        mark: Some(mark),
+        ..telling(11, deck, card)
     }
 }
 
@@ -253,13 +257,14 @@ impl Bench {
         })
     }
 
-    // The same over a tray of these bytes, with open names refused.
+    // The same over a tray of these bytes.
     pub(crate) fn run(
         &mut self,
         tray: Vec<u8>,
         size: u32,
         steps: &[Step],
+        open: OpenNames,
     ) -> Result<Outcome, Fail> {
-        self.link(open_tray(tray)?, size, steps, OpenNames::Refused)
+        self.link(open_tray(tray)?, size, steps, open)
     }
 }

@@ -59,12 +59,9 @@ pub(crate) enum Card {
     Plain(u8, [u8; 3], u16),
 }
 
-// A deck of a tray.
+// A deck of a tray: its name and its cards.
 #[derive(Clone, Copy)]
-pub(crate) struct Deck {
-    pub(crate) name: &'static str,
-    pub(crate) cards: &'static [Card],
-}
+pub(crate) struct Deck(pub(crate) &'static str, pub(crate) &'static [Card]);
 
 fn blank_card() -> [u8; 80] {
     [0x40; 80]
@@ -225,11 +222,7 @@ pub(crate) fn add_cards(tray: &mut Vec<u8>, card: Card, times: u16) -> Result<()
 }
 
 // Puts a deck behind the bytes of a tray.
-pub(crate) fn add_deck(
-    tray: &mut Vec<u8>,
-    text: &str,
-    cards: &[Card],
-) -> Result<(), AllocError> {
+pub(crate) fn add_deck(tray: &mut Vec<u8>, text: &str, cards: &[Card]) -> Result<(), AllocError> {
     add_header(tray, text)?;
     for card in cards {
         add_cards(tray, *card, 1)?;
@@ -240,8 +233,8 @@ pub(crate) fn add_deck(
 // The bytes of a tray of these decks.
 pub(crate) fn tray_of(heap: Global, decks: &[Deck]) -> Result<Vec<u8>, AllocError> {
     let mut tray = Vec::new(heap);
-    for deck in decks {
-        add_deck(&mut tray, deck.name, deck.cards)?;
+    for Deck(text, cards) in decks {
+        add_deck(&mut tray, text, cards)?;
     }
     Ok(tray)
 }
