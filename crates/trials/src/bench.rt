@@ -1,4 +1,4 @@
-// A bench: trays are opened, linked step by step and fixed, and what was answered is kept.
+// A bench: libraries are linked step by step and fixed, and each answer is held to what it should be.
 use crate::names::name;
 use card::Layer;
 use card::Refusal;
@@ -11,7 +11,6 @@ use link::Called;
 use link::Link;
 use link::LinkFault;
 use link::MapKind;
-use link::MapLine;
 use link::OpenNames;
 use link::Program;
 use link::Room;
@@ -21,7 +20,7 @@ use std::test::*;
 use table::Count;
 use table::Row;
 
-// What a refusal told.
+// What a refusal tells.
 #[derive(Clone, Copy, PartialEq, Eq, Debug)]
 pub(crate) struct Told {
     number: u8,
@@ -31,9 +30,9 @@ pub(crate) struct Told {
     mark: Option<u8>,
 }
 
-// What a call of the link answered.
+// What a call of the link answers.
 #[derive(Clone, Copy, PartialEq, Eq, Debug)]
-pub(crate) enum Answer {
+enum Answer {
     Done,
     NoneLeft,
     Refused(Told),
@@ -41,7 +40,7 @@ pub(crate) enum Answer {
 
 // A line of the map.
 #[derive(Clone, Copy, PartialEq, Eq, Debug)]
-pub(crate) struct Shown {
+struct Shown {
     name: u64,
     kind: &'static str,
     address: u32,
@@ -56,16 +55,34 @@ pub(crate) enum Step {
     Entry(&'static str),
 }
 
-// What a run answered: each step, the check before the fix, the entry of the program, and its map.
-#[derive(Drop)]
-pub(crate) struct Outcome {
-    pub(crate) answers: Vec<Answer>,
-    pub(crate) checked: Option<Told>,
-    pub(crate) entry: Result<u32, Told>,
-    pub(crate) map: Vec<Shown>,
+// What a step has to answer.
+#[derive(Clone, Copy)]
+pub(crate) enum Expected {
+    Done,
+    NoneLeft,
+    // number, deck and card
+    Refused(u8, &'static str, u16),
+    // deck, card and mark
+    Flawed(&'static str, u16, u8),
 }
 
-// The memory that every run uses again.
+// Name, kind, address and length of a line of the map.
+pub(crate) type MapRow = (&'static str, &'static str, u32, u32);
+
+// The steps of a link, what fix gives, an entry or the number of a refusal, and the map.
+#[derive(Clone, Copy)]
+pub(crate) struct Plan<'a> {
+    pub(crate) why: &'static str,
+    pub(crate) size: u32,
+    pub(crate) steps: &'a [(Step, Expected)],
+    pub(crate) open: OpenNames,
+    // where it is asked
+    pub(crate) fixed: Option<Result<u32, u8>>,
+    // where it is asked
+    pub(crate) map: Option<&'static [MapRow]>,
+}
+
+// The memory that every link uses again.
 #[derive(Drop)]
 pub(crate) struct Bench {
     pub(crate) heap: Global,
@@ -116,11 +133,15 @@ pub(crate) fn telling(number: u8, deck: &str, card: u16) -> Told {
     }
 }
 
-// What a flawed card's include has to tell.
-pub(crate) fn telling_mark(deck: &str, card: u16, mark: u8) -> Told {
-    Told {
-        mark: Some(mark),
-        ..telling(11, deck, card)
+fn expected_answer(expected: Expected) -> Answer {
+    match expected {
+        Expected::Done => Answer::Done,
+        Expected::NoneLeft => Answer::NoneLeft,
+        Expected::Refused(number, deck, card) => Answer::Refused(telling(number, deck, card)),
+        Expected::Flawed(deck, card, mark) => Answer::Refused(Told {
+            mark: Some(mark),
+            ..telling(11, deck, card)
+        }),
     }
 }
 
@@ -135,17 +156,8 @@ fn kind_name(kind: MapKind) -> &'static str {
     }
 }
 
-fn shown_line(line: MapLine) -> Shown {
-    Shown {
-        name: line.name.number(),
-        kind: kind_name(line.kind),
-        address: line.address,
-        length: line.length,
-    }
-}
-
-// The line of the map that shows this.
-pub(crate) fn line(text: &str, kind: &'static str, address: u32, length: u32) -> Shown {
+fn shown_row(row: MapRow) -> Shown {
+    let (text, kind, address, length) = row;
     Shown {
         name: name(text).number(),
         kind,
@@ -154,11 +166,22 @@ pub(crate) fn line(text: &str, kind: &'static str, address: u32, length: u32) ->
     }
 }
 
+// Line n of a program's map.
+fn shown_line<L>(program: &Program<L>, n: usize) -> Option<Shown> {
+    let line = program.line(n)?;
+    Some(Shown {
+        name: line.name.number(),
+        kind: kind_name(line.kind),
+        address: line.address,
+        length: line.length,
+    })
+}
+
 fn id_rows() -> IdRows {
     [Row { key: 0, value: 0 }; 256]
 }
 
-fn answer_of(result: Result<(), LinkFault>) -> Answer {
+fn done(result: Result<(), LinkFault>) -> Answer {
     match result {
         Ok(()) => Answer::Done,
         Err(fault) => Answer::Refused(told_by(fault.refusal())),
@@ -176,10 +199,7 @@ fn called(result: Result<Called, LinkFault>) -> Answer {
 fn open_tray(bytes: Vec<u8>) -> Result<Tray, Fail> {
     match Tray::open(bytes) {
         Ok(tray) => Ok(tray),
-        Err(fault) => {
-            let told = told_by(fault.refusal());
-            Err(Fail::new(format_args!("the tray is refused: {told:?}")))
-        }
+        Err(_) => Err(Fail::new("the tray is refused")),
     }
 }
 
@@ -190,12 +210,48 @@ fn area_of(size: u32) -> Result<Area, Fail> {
     }
 }
 
-// Puts the lines of a program's map behind each other.
-fn map_into<L>(program: &Program<L>, map: &mut Vec<Shown>) {
-    for n in 0..1024usize {
-        if let Some(line) = program.line(n + 1) {
-            let _ = map.push(shown_line(line));
+// The map has these lines and no other.
+fn check_map<L>(program: &Program<L>, rows: &[MapRow]) -> Result<(), Fail> {
+    check_eq(shown_line(program, 0), None)?;
+    let mut n = 1usize;
+    for row in rows {
+        check_eq(shown_line(program, n), Some(shown_row(*row)))?;
+        n = n.saturating_add(1);
+    }
+    check_eq(shown_line(program, n), None)
+}
+
+// The entry, or what the program is refused with.
+fn entry_of<L>(program: &Program<L>) -> Result<u32, Told> {
+    match program.entry() {
+        Ok(address) => Ok(address),
+        Err(fault) => Err(told_by(fault.refusal())),
+    }
+}
+
+// The fix gave what it should, and the check before it answered so too.
+fn check_fix<L>(program: &Program<L>, checked: Answer, fixed: Result<u32, u8>) -> Result<(), Fail> {
+    match fixed {
+        Ok(entry) => {
+            check_eq(checked, Answer::Done)?;
+            check_eq(entry_of(program), Ok(entry))
         }
+        Err(number) => {
+            let told = telling(number, "", 0);
+            check_eq(checked, Answer::Refused(told))?;
+            check_eq(entry_of(program), Err(told))?;
+            check_map(program, &[])
+        }
+    }
+}
+
+fn check_program<L>(program: &Program<L>, checked: Answer, plan: Plan<'_>) -> Result<(), Fail> {
+    if let Some(fixed) = plan.fixed {
+        check_fix(program, checked, fixed)?;
+    }
+    match plan.map {
+        Some(rows) => check_map(program, rows),
+        None => Ok(()),
     }
 }
 
@@ -211,60 +267,47 @@ impl Bench {
 
     fn make<L: Library>(&mut self, link: &mut Link<L>, step: Step) -> Answer {
         match step {
-            Step::Include(text) => answer_of(link.include(
-                name(text),
-                &mut self.rows,
-                &mut self.count,
-            )),
+            Step::Include(text) => done(link.include(name(text), &mut self.rows, &mut self.count)),
             Step::Call => called(link.call(&mut self.rows, &mut self.count)),
-            Step::Entry(text) => answer_of(link.entry(name(text))),
+            Step::Entry(text) => done(link.entry(name(text))),
         }
     }
 
-    // Opens a link over a library, makes the steps, fixes and scraps it.
+    // Makes the steps, each of which has to answer as expected.
+    fn gather<L: Library>(
+        &mut self,
+        link: &mut Link<L>,
+        steps: &[(Step, Expected)],
+    ) -> Result<(), Fail> {
+        for (step, expected) in steps {
+            check_eq(self.make(link, *step), expected_answer(*expected))?;
+        }
+        Ok(())
+    }
+
+    // Links a library as planned; the link is scrapped also where an answer is wrong.
     pub(crate) fn link<L: Library + Drop>(
         &mut self,
         library: L,
-        size: u32,
-        steps: &[Step],
-        open: OpenNames,
-    ) -> Result<Outcome, Fail> {
-        let area = area_of(size)?;
-        let mut answers = Vec::with_capacity(self.heap, steps.len())?;
-        let mut map = Vec::with_capacity(self.heap, 1024)?;
+        plan: Plan<'_>,
+    ) -> Result<(), Fail> {
+        let area = area_of(plan.size)?;
         let room = self.room.take().ok_or("the room is gone")?;
         let mut link = Link::open(library, area, room);
-        for step in steps {
-            let _ = answers.push(self.make(&mut link, *step));
-        }
-        let checked = match link.check(open) {
-            Ok(()) => None,
-            Err(fault) => Some(told_by(fault.refusal())),
-        };
-        let program = link.fix(open);
-        map_into(&program, &mut map);
-        let entry = match program.entry() {
-            Ok(address) => Ok(address),
-            Err(fault) => Err(told_by(fault.refusal())),
+        let gathered = self.gather(&mut link, plan.steps);
+        let checked = done(link.check(plan.open));
+        let program = link.fix(plan.open);
+        let result = match gathered {
+            Ok(()) => check_program(&program, checked, plan),
+            Err(fail) => Err(fail),
         };
         let (_, room) = program.scrap();
         self.room = Some(room);
-        Ok(Outcome {
-            answers,
-            checked,
-            entry,
-            map,
-        })
+        result.note(plan.why)
     }
 
     // The same over a tray of these bytes.
-    pub(crate) fn run(
-        &mut self,
-        tray: Vec<u8>,
-        size: u32,
-        steps: &[Step],
-        open: OpenNames,
-    ) -> Result<Outcome, Fail> {
-        self.link(open_tray(tray)?, size, steps, open)
+    pub(crate) fn link_tray(&mut self, tray: Vec<u8>, plan: Plan<'_>) -> Result<(), Fail> {
+        self.link(open_tray(tray)?, plan)
     }
 }

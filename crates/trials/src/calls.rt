@@ -1,8 +1,9 @@
 // Calls and their marks, and what refusals leave as it was.
+use crate::bench::Expected::*;
 use crate::bench::Step::*;
-use crate::cases::Expected::*;
 use crate::cases::MapCase;
-use crate::cases::try_maps;
+use crate::cases::Maps;
+use crate::cases::try_all;
 use crate::punch::Card::*;
 use crate::punch::Deck;
 use crate::punch::Item::*;
@@ -16,6 +17,7 @@ const CALLS: &[MapCase] = &[
             Deck("A", &[Esd(1, &[Sd("A", 0, 8), Wx("B")]), End]),
             Deck("B", &[Esd(1, &[Sd("B", 0, 8)]), End]),
         ],
+        size: 64,
         steps: &[(Call, NoneLeft), (Include("A"), Done), (Call, NoneLeft)],
         map: &[("A", "SD", 0, 8), ("B", "WX", 0, 0)],
         entry: 0,
@@ -29,6 +31,7 @@ const CALLS: &[MapCase] = &[
             Deck("Y", &[Esd(1, &[Sd("Y", 0, 4)]), End]),
             Deck("Z", &[Esd(1, &[Sd("Z", 0, 4), Er("Y"), Wx("W")]), End]),
         ],
+        size: 64,
         steps: &[
             (Include("A"), Done),
             (Include("B"), Done),
@@ -50,6 +53,7 @@ const CALLS: &[MapCase] = &[
     MapCase {
         why: "a call refused by the library leaves its mark alone",
         decks: &[Deck("A", &[Esd(1, &[Sd("A", 0, 8), Er("B")]), End])],
+        size: 64,
         steps: &[
             (Include("A"), Done),
             (Call, Refused(10, "B", 0)),
@@ -65,6 +69,7 @@ const CALLS: &[MapCase] = &[
             Deck("B", &[Esd(1, &[Sd("B", 0, 8)]), Plain(0x40, SYM, 0), End]),
             Deck("C", &[Esd(1, &[Sd("C", 0, 8), Er("B")]), End]),
         ],
+        size: 64,
         steps: &[
             (Include("A"), Done),
             (Call, Refused(12, "B", 2)),
@@ -83,6 +88,7 @@ const CALLS: &[MapCase] = &[
                 &[Esd(1, &[Sd("B", 0, 8)]), Esd(2, &[Sd("C", 0, 999)]), End],
             ),
         ],
+        size: 64,
         steps: &[
             (Include("A"), Done),
             (Call, Refused(25, "B", 2)),
@@ -97,6 +103,7 @@ const CALLS: &[MapCase] = &[
             Deck("A", &[Esd(1, &[Sd("A", 0, 8), Er("B")]), End]),
             Deck("B", &[Esd(1, &[Sd("C", 0, 8)]), End]),
         ],
+        size: 64,
         steps: &[(Include("A"), Done), (Call, Done), (Call, NoneLeft)],
         map: &[("A", "SD", 0, 8), ("B", "ER", 0, 0), ("C", "SD", 8, 8)],
         entry: 0,
@@ -128,6 +135,7 @@ const REFUSALS: &[MapCase] = &[
             ),
             Deck("E", &[Esd(1, &[Sd("E", 0, 8)]), End]),
         ],
+        size: 64,
         steps: &[
             (Include("A"), Done),
             (Include("B"), Refused(24, "B", 2)),
@@ -146,6 +154,7 @@ const REFUSALS: &[MapCase] = &[
     MapCase {
         why: "a blank entry leaves the name chosen before",
         decks: &[Deck("A", &[Esd(1, &[Sd("A", 0, 8), Ld("L", 6, 1)]), EndAt(1, 4)])],
+        size: 64,
         steps: &[
             (Include("A"), Done),
             (Entry("L"), Done),
@@ -158,10 +167,10 @@ const REFUSALS: &[MapCase] = &[
 
 #[test]
 fn calls_and_marks(rt: LibcRuntime) -> Result<(), Fail> {
-    try_maps(rt.alloc(), 64, CALLS)
+    try_all(rt.alloc(), CALLS)
 }
 
 #[test]
 fn refusals_change_nothing(rt: LibcRuntime) -> Result<(), Fail> {
-    try_maps(rt.alloc(), 64, REFUSALS)
+    try_all(rt.alloc(), REFUSALS)
 }

@@ -6,13 +6,10 @@ ghost use lib.ListN.{length};
 ghost use native.Mathlib.Omega.{arith};
 ghost use Rattle.std.specs.declared.option.Option.the-variants.{Some, None};
 ghost use Rattle.library.specs.Slots.{Card, Flaw};
-use crate::bench::Answer;
-use crate::bench::AnswerDebug;
-use crate::bench::AnswerPartialEq;
 use crate::bench::Bench;
+use crate::bench::Expected;
+use crate::bench::Plan;
 use crate::bench::Step;
-use crate::bench::telling;
-use crate::bench::telling_mark;
 use crate::punch::Card::Plain;
 use crate::punch::SYM;
 use crate::punch::punch;
@@ -50,20 +47,25 @@ impl Library for Marred as MarredLibrary {
     }
 }
 
-// What the include of the deck answers, whose first card has this column 1.
-fn included(bench: &mut Bench, column: u8) -> Result<Option<Answer>, Fail> {
+// The include of a deck whose first card has this column 1 answers so.
+fn try_first(bench: &mut Bench, column: u8, expected: Expected) -> Result<(), Fail> {
     let library = Marred {
         first: punch(Plain(column, SYM, 0)),
     };
-    let outcome = bench.link(library, 8, &[Step::Include("D")], OpenNames::Refused)?;
-    Ok(outcome.answers.first().copied())
+    let plan = Plan {
+        why: "a library with a flawed card",
+        size: 8,
+        steps: &[(Step::Include("D"), expected)],
+        open: OpenNames::Refused,
+        fixed: None,
+        map: None,
+    };
+    bench.link(library, plan)
 }
 
 #[test]
 fn flawed_cards(rt: LibcRuntime) -> Result<(), Fail> {
     let mut bench = Bench::new(rt.alloc())?;
-    let flawed = Answer::Refused(telling_mark("D", 2, 7));
-    check_eq(included(&mut bench, 0x02)?, Some(flawed))?;
-    let unknown = Answer::Refused(telling(12, "D", 1));
-    check_eq(included(&mut bench, 0x40)?, Some(unknown)).note("an earlier card is told first")
+    try_first(&mut bench, 0x02, Expected::Flawed("D", 2, 7))?;
+    try_first(&mut bench, 0x40, Expected::Refused(12, "D", 1))
 }

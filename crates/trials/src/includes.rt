@@ -1,6 +1,7 @@
 // What the link refuses a deck for: 10 and 23 to 25.
 use crate::cases::IncludeCase;
-use crate::cases::try_includes;
+use crate::cases::Includes;
+use crate::cases::try_all;
 use crate::punch::Card::*;
 use crate::punch::Deck;
 use crate::punch::Item::*;
@@ -255,15 +256,15 @@ const AREAS: &[IncludeCase] = &[
 
 #[test]
 fn clashes_of_labels(rt: LibcRuntime) -> Result<(), Fail> {
-    try_includes(rt.alloc(), CLASHES)
+    try_all(rt.alloc(), CLASHES)
 }
 
 #[test]
 fn commons_and_sections(rt: LibcRuntime) -> Result<(), Fail> {
-    try_includes(rt.alloc(), COMMONS)
+    try_all(rt.alloc(), COMMONS)
 }
 
 #[test]
 fn ends_of_the_area(rt: LibcRuntime) -> Result<(), Fail> {
-    try_includes(rt.alloc(), AREAS)
+    try_all(rt.alloc(), AREAS)
 }

@@ -1,8 +1,9 @@
 // Maps of whole programs.
+use crate::bench::Expected::*;
 use crate::bench::Step::*;
-use crate::cases::Expected::*;
 use crate::cases::MapCase;
-use crate::cases::try_maps;
+use crate::cases::Maps;
+use crate::cases::try_all;
 use crate::punch::Card;
 use crate::punch::Card::*;
 use crate::punch::Deck;
@@ -32,6 +33,7 @@ const WORKED: &[MapCase] = &[
                 ],
             ),
         ],
+        size: 64,
         steps: &[(Include("MAIN"), Done), (Call, Done), (Call, NoneLeft)],
         map: &[
             ("MAIN", "SD", 0, 10),
@@ -51,6 +53,7 @@ const WORKED: &[MapCase] = &[
                 End,
             ],
         )],
+        size: 64,
         steps: &[(Include("A"), Done)],
         map: &[
             ("A", "SD", 0, 4),
@@ -69,6 +72,7 @@ const WORKED: &[MapCase] = &[
                 EndLength(9),
             ],
         )],
+        size: 64,
         steps: &[(Include("A"), Done)],
         map: &[("A", "SD", 0, 4), ("B", "SD", 8, 9), ("C", "SD", 24, 4)],
         entry: 0,
@@ -83,6 +87,7 @@ const WORKED: &[MapCase] = &[
                 End,
             ],
         )],
+        size: 64,
         steps: &[(Include("A"), Done), (Include("A"), Done)],
         map: &[
             ("", "PC", 0, 4),
@@ -102,6 +107,7 @@ const WORKED: &[MapCase] = &[
                 &[Esd(1, &[Sd("X", 0, 16), Ld("L", 4, 1), Ld("M", 9, 1)]), End],
             ),
         ],
+        size: 64,
         steps: &[(Include("A"), Done), (Include("B"), Done)],
         map: &[("X", "SD", 0, 8), ("L", "LR", 2, 0)],
         entry: 0,
@@ -122,6 +128,7 @@ const WORKED: &[MapCase] = &[
                 ],
             ),
         ],
+        size: 64,
         steps: &[(Include("A"), Done), (Include("B"), Done)],
         map: &[
             ("X", "CM", 16, 20),
@@ -145,6 +152,7 @@ const WORKED: &[MapCase] = &[
             ),
             Deck("B", &[Esd(1, &[Sd("X", 256, 16), Ld("L", 260, 1)]), End]),
         ],
+        size: 64,
         steps: &[(Include("A"), Done), (Include("B"), Done)],
         map: &[
             ("A", "SD", 0, 8),
@@ -196,66 +204,64 @@ const MODULE: &[Deck] = &[
     ),
 ];
 
-// The module map of 'Linkage Editor and Loader': three modules, and two that are called from the library.
-const MODULE_MAP: &[MapCase] = &[MapCase {
-    why: "the module map",
-    decks: MODULE,
-    steps: &[
-        (Include("COBSUB"), Done),
-        (Include("SUB1"), Done),
-        (Include("MAINMOD"), Done),
-        (Call, Done),
-        (Call, Done),
-        (Call, NoneLeft),
-    ],
-    map: &[
-        ("COBSUB", "SD", 0x000, 0x33A),
-        ("ILBODSP0", "SD", 0x598, 0x5E2),
-        ("ILBOSTP0", "SD", 0xB80, 0x35),
-        ("ILBOSTP1", "LR", 0xB96, 0),
-        ("", "PC", 0x340, 0xEF),
-        ("SUB1", "LR", 0x340, 0),
-        ("MAINMOD", "SD", 0x430, 0x166),
-    ],
-    entry: 0x430,
-}];
-
-// The same in an area that is 8 bytes shorter than the module's total length.
-const MODULE_CUT: &[MapCase] = &[MapCase {
-    why: "the module map without room for its last section",
-    decks: MODULE,
-    steps: &[
-        (Include("COBSUB"), Done),
-        (Include("SUB1"), Done),
-        (Include("MAINMOD"), Done),
-        (Call, Done),
-        (Call, Refused(25, "ILBOSTP0", 1)),
-        (Call, Refused(10, "ILBOSTP1", 0)),
-        (Call, NoneLeft),
-    ],
-    map: &[
-        ("COBSUB", "SD", 0x000, 0x33A),
-        ("ILBODSP0", "SD", 0x598, 0x5E2),
-        ("ILBOSTP0", "ER", 0, 0),
-        ("ILBOSTP1", "ER", 0, 0),
-        ("", "PC", 0x340, 0xEF),
-        ("SUB1", "LR", 0x340, 0),
-        ("MAINMOD", "SD", 0x430, 0x166),
-    ],
-    entry: 0x430,
-}];
+// The module map of 'Linkage Editor and Loader': three modules, and two that are called from the library;
+// once in an area of the module's total length, and once in one that is 8 bytes shorter.
+const MODULE_MAP: &[MapCase] = &[
+    MapCase {
+        why: "the module map",
+        decks: MODULE,
+        size: 0xBB8,
+        steps: &[
+            (Include("COBSUB"), Done),
+            (Include("SUB1"), Done),
+            (Include("MAINMOD"), Done),
+            (Call, Done),
+            (Call, Done),
+            (Call, NoneLeft),
+        ],
+        map: &[
+            ("COBSUB", "SD", 0x000, 0x33A),
+            ("ILBODSP0", "SD", 0x598, 0x5E2),
+            ("ILBOSTP0", "SD", 0xB80, 0x35),
+            ("ILBOSTP1", "LR", 0xB96, 0),
+            ("", "PC", 0x340, 0xEF),
+            ("SUB1", "LR", 0x340, 0),
+            ("MAINMOD", "SD", 0x430, 0x166),
+        ],
+        entry: 0x430,
+    },
+    MapCase {
+        why: "the module map without room for its last section",
+        decks: MODULE,
+        size: 0xBB0,
+        steps: &[
+            (Include("COBSUB"), Done),
+            (Include("SUB1"), Done),
+            (Include("MAINMOD"), Done),
+            (Call, Done),
+            (Call, Refused(25, "ILBOSTP0", 1)),
+            (Call, Refused(10, "ILBOSTP1", 0)),
+            (Call, NoneLeft),
+        ],
+        map: &[
+            ("COBSUB", "SD", 0x000, 0x33A),
+            ("ILBODSP0", "SD", 0x598, 0x5E2),
+            ("ILBOSTP0", "ER", 0, 0),
+            ("ILBOSTP1", "ER", 0, 0),
+            ("", "PC", 0x340, 0xEF),
+            ("SUB1", "LR", 0x340, 0),
+            ("MAINMOD", "SD", 0x430, 0x166),
+        ],
+        entry: 0x430,
+    },
+];
 
 #[test]
 fn small_programs(rt: LibcRuntime) -> Result<(), Fail> {
-    try_maps(rt.alloc(), 64, WORKED)
+    try_all(rt.alloc(), WORKED)
 }
 
 #[test]
 fn module_map(rt: LibcRuntime) -> Result<(), Fail> {
-    try_maps(rt.alloc(), 0xBB8, MODULE_MAP)
-}
-
-#[test]
-fn module_map_cut_short(rt: LibcRuntime) -> Result<(), Fail> {
-    try_maps(rt.alloc(), 0xBB0, MODULE_CUT)
+    try_all(rt.alloc(), MODULE_MAP)
 }
