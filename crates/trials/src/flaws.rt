@@ -10,6 +10,8 @@ use crate::bench::Bench;
 use crate::bench::Expected;
 use crate::bench::Plan;
 use crate::bench::Step;
+use crate::cases::Case;
+use crate::cases::try_all;
 use crate::punch::Card::Plain;
 use crate::punch::SYM;
 use crate::punch::punch;
@@ -47,25 +49,34 @@ impl Library for Marred as MarredLibrary {
     }
 }
 
-// The include of a deck whose first card has this column 1 answers so.
-fn try_first(bench: &mut Bench, column: u8, expected: Expected) -> Result<(), Fail> {
-    let library = Marred {
-        first: punch(Plain(column, SYM, 0)),
-    };
-    let plan = Plan {
-        why: "a library with a flawed card",
-        size: 8,
-        steps: &[(Step::Include("D"), expected)],
-        open: OpenNames::Refused,
-        fixed: None,
-        map: None,
-    };
-    bench.link(library, plan)
+// Column 1 of the first card, and what the include answers.
+#[derive(Clone, Copy)]
+struct FlawCase(u8, Expected);
+
+impl Case for FlawCase as Flawed {
+    fn passes(&self, bench: &mut Bench) -> Result<(), Fail> {
+        let library = Marred {
+            first: punch(Plain(self.0, SYM, 0)),
+        };
+        let plan = Plan {
+            why: "a library with a flawed card",
+            size: 8,
+            steps: &[(Step::Include("D"), self.1)],
+            open: OpenNames::Refused,
+            fixed: None,
+            map: None,
+        };
+        bench.link(library, plan)
+    }
 }
+
+// A fault of an earlier card is told first.
+const CASES: &[FlawCase] = &[
+    FlawCase(0x02, Expected::Flawed("D", 2, 7)),
+    FlawCase(0x40, Expected::Refused(12, "D", 1)),
+];
 
 #[test]
 fn flawed_cards(rt: LibcRuntime) -> Result<(), Fail> {
-    let mut bench = Bench::new(rt.alloc())?;
-    try_first(&mut bench, 0x02, Expected::Flawed("D", 2, 7))?;
-    try_first(&mut bench, 0x40, Expected::Refused(12, "D", 1))
+    try_all(rt.alloc(), CASES)
 }
