@@ -5,6 +5,7 @@ ghost use Rattle.std.specs.Of.Vec.{vec-items};
 ghost use Rattle.std.specs.Results.{Cases};
 ghost use Rattle.std.specs.declared.option.Option.the-variants.{Some, None};
 ghost use Rattle.linkmap.specs.Files.{fileFault};
+
 mod session;
 
 use console::without_newline;
