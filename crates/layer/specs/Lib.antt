@@ -1,0 +1,3 @@
+pub mod Joined
+pub mod Additions
+pub mod Withheld

@@ -1,0 +1,16 @@
+// The tables inside layers: the first places are in use.
+ghost use mathlib.Core.Path.{_≡_};
+ghost use Prim.Native.Nat.{_≤_};
+ghost use lib.ListN.{length};
+use card::Name;
+
+pub(crate) const MAX_NAMES: usize = 32;
+
+// Names that are withheld.
+#[derive(Clone, Copy)]
+pub(crate) struct Names {
+    pub(crate) all: [Name; MAX_NAMES],
+    pub(crate) used: usize,
+    ghost whole: { length all ≡ 32 },
+    ghost few: { used ≤ 32 },
+}
