@@ -14,3 +14,22 @@ pub(crate) struct Names {
     ghost whole: { length all ≡ 32 },
     ghost few: { used ≤ 32 },
 }
+
+pub(crate) const MAX_PAIRS: usize = 16;
+
+// A name, and the name that it becomes.
+#[derive(Clone, Copy)]
+pub(crate) struct Pair {
+    pub(crate) old: Name,
+    pub(crate) new: Name,
+    ghost sized: { length (new .bytes) ≡ 8 },
+}
+
+// Pairs of an old name and a new name.
+#[derive(Clone, Copy)]
+pub(crate) struct Pairs {
+    pub(crate) all: [Pair; MAX_PAIRS],
+    pub(crate) used: usize,
+    ghost whole: { length all ≡ 16 },
+    ghost few: { used ≤ 16 },
+}
