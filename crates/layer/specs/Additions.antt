@@ -15,6 +15,7 @@ use Rattle.library.specs.declared.fault.LibraryFault.the-variants.{TableFull, B
 abbrev pub faultOf : {X : Type 0} → ℕ → List X → Bool → Option LibraryFault
 faultOf places xs bad = cond (leb places (length xs)) (Some TableFull) (cond bad (Some BadName) None)
 
+-- what an addition answers, given the rule that it breaks
 abbrev pub answerBy : Option LibraryFault → Result (Unit {0}) LibraryFault
 answerBy None = Ok tt
 answerBy (Some fault) = Err fault

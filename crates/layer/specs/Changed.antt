@@ -1,4 +1,4 @@
--- What a library means in whose cards names are changed.
+-- What a library means where names are changed inside its cards.
 use mathlib.Core.Path.{_≡_}
 use mathlib.Core.Bool.{Bool, true, false, cond}
 use mathlib.Core.List.{List, [], _∷_, _++_, map}
@@ -32,15 +32,15 @@ renameFrom pairs (suc n) at card = renameFrom pairs n (at + 16) (renameAt pairs 
 abbrev pub itemCount : ℕ → ℕ
 itemCount n = cond (eqb n 16) 1 (cond (eqb n 32) 2 (cond (eqb n 48) 3 0))
 
--- how many names are looked up: one for each item of an ESD card, one on an END card
+-- how many names are looked up: one for each item where columns 2 to 4 say ESD, one where they say END
 abbrev pub nameCount : List ℕ → ℕ
 nameCount card = cond (spells card 0xC5 0xE2 0xC4) (itemCount (byteCount card)) (cond (spells card 0xC5 0xD5 0xC4) 1 0)
 
--- a card with its names changed, the first in columns 17 to 24
+-- a card with its names changed: in columns 17 to 24, 33 to 40 and 49 to 56, as many as it has
 unfoldable pub edited : List Renaming → List ℕ → List ℕ
 edited pairs card = renameFrom pairs (nameCount card) 16 card
 
--- flaws keep their marks
+-- a readable card with its names changed; a flaw keeps its mark
 abbrev pub changedSlot : List Renaming → Slot → Slot
 changedSlot pairs (Card bytes) = Card (edited pairs bytes)
 changedSlot pairs (Flaw mark) = Flaw mark

@@ -38,7 +38,7 @@ badPair pairs p = isBlank (p .old) || (isBlank (p .new) || isSome (newName (p .o
 abbrev pub changeFault : List Renaming → Renaming → Option LibraryFault
 changeFault pairs p = faultOf 16 pairs (badPair pairs p)
 
--- what a name becomes: some pair's new name where it is the old one, else it stays; it is looked up once
+-- what a name becomes: the new name where it is some pair's old one, else it stays; a new name is not looked up again
 abbrev pub renamed : List Renaming → Name → Name
 renamed pairs name = valueOr (newName name pairs) name
 

@@ -1,4 +1,4 @@
--- What a library means under which names are withheld.
+-- What a library means where names are withheld.
 use mathlib.Core.Bool.{Bool, true, false, cond, _||_}
 use mathlib.Core.List.{List, [], _∷_}
 use lib.ListN.{take}
