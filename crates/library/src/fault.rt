@@ -11,6 +11,10 @@ pub enum LibraryFault {
     BadTrayLength,
     BadTrayDecks,
     NameTwice,
+    // A layer's table has no place left.
+    TableFull,
+    // A name for a layer is blank, or there already.
+    BadName,
     NoSuchDeck { deck: u64 },
     FlawedCard { at: CardAt, mark: u8 },
 }
@@ -23,6 +27,8 @@ impl LibraryFault {
             LibraryFault::BadTrayLength => no_deck(1),
             LibraryFault::BadTrayDecks => no_deck(2),
             LibraryFault::NameTwice => no_deck(5),
+            LibraryFault::TableFull => no_deck(6),
+            LibraryFault::BadName => no_deck(7),
             LibraryFault::NoSuchDeck { deck } => CardAt { deck, card: 0 }.refused(
                 Layer::Library,
                 10,
