@@ -1,4 +1,6 @@
 // The cards of a System/360 object deck: names, fields, items, and what a card of eighty bytes says.
+#![tactic(auto)]
+
 mod charset;
 mod content;
 mod end;

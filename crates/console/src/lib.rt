@@ -1,4 +1,6 @@
 // What LINKMAP reads and prints: typed lines as commands, and the lines of its answers.
+#![tactic(auto)]
+
 mod command;
 mod input;
 mod row;

@@ -1,4 +1,6 @@
 // Reading a deck: its cards from a library, judged whole.
+#![tactic(auto)]
+
 mod bounds;
 mod content;
 mod defined;

@@ -1,4 +1,6 @@
 // Libraries that stand on libraries: two joined, names withheld, names changed inside cards.
+#![tactic(auto)]
+
 mod change;
 mod edit;
 mod join;

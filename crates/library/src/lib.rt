@@ -1,4 +1,6 @@
 // Libraries of decks: what one is asked, and a tray of cards that answers.
+#![tactic(auto)]
+
 mod answer;
 mod cards;
 mod check;

@@ -1,4 +1,6 @@
 // The link: decks taken from a library, their sections laid out in an area, and the map of the program.
+#![tactic(auto)]
+
 mod area_check;
 mod clashes;
 mod commit;

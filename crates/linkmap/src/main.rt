@@ -1,5 +1,7 @@
 // LINKMAP: links decks from the tray in tray.bin as typed lines ask, and prints the map.
 
+#![tactic(auto)]
+
 ghost use Rattle.std.specs.Prelude.{◌≡◌, Some, None, MatchResult};
 ghost use Rattle.linkmap.specs.Files.{file_fault};
 

@@ -1,4 +1,6 @@
 // A table of keyed rows, in rows that the caller lends and a count of those in use.
+#![tactic(auto)]
+
 ghost use Rattle.std.specs.Prelude.{◌≡◌, ◌<◌, ◌≤◌, Bool, length, IfSome, Decides, nat_eq};
 ghost use Rattle.std.specs.Str.{bytes_eq};
 ghost use Rattle.table.specs.Rows.{held, first_at, value_under, placed, added, grown, written};

@@ -1,4 +1,6 @@
 // Trials of the linker: decks are punched card by card, linked, and the answers held to the rules.
+#![tactic(auto)]
+
 #[cfg(test)]
 mod bench;
 #[cfg(test)]

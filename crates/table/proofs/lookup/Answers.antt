@@ -6,23 +6,23 @@ use Rattle.table.proofs.lookup.Goals as goal
 
 pub returns-then-equals : goal.returns-then-equals
 returns-then-equals g c =
-    let len = length-take (c.held-len.result - 0) c.args.rows.now in
-    let below : c.loop-row.row-index < c.held-len.result = omega arith in
-    let read = get_or-take (c.held-len.result - 0) c.args.rows.now c.loop-row.row-index c.row-item.result (omega arith) in
-    let step = at_row (value_under g.K.Key.same c.args.key) c.args.count.now c.args.rows.now c.loop-row.row-index _ c.held-len.ensures.value c.row-item.result below in
+    let len = length-take (c.held_len.result - 0) c.args.rows.now in
+    let below : c.loop-row.row-index < c.held_len.result = omega arith in
+    let read = get_or-take (c.held_len.result - 0) c.args.rows.now c.loop-row.row-index c.row-item.result (omega arith) in
+    let step = at_row (value_under g.K.Key.same c.args.key) c.args.count.now c.args.rows.now c.loop-row.row-index _ c.held_len.ensures.value c.row-item.result below in
     search rules
 
 pub loop-row-preserved : goal.loop-row-preserved
 loop-row-preserved g c =
-    let len = length-take (c.held-len.result - 0) c.args.rows.now in
-    let below : c.loop-row.row-index < c.held-len.result = omega arith in
-    let read = get_or-take (c.held-len.result - 0) c.args.rows.now c.loop-row.row-index c.row-item.result (omega arith) in
-    let step = at_row (value_under g.K.Key.same c.args.key) c.args.count.now c.args.rows.now c.loop-row.row-index _ c.held-len.ensures.value c.row-item.result below in
+    let len = length-take (c.held_len.result - 0) c.args.rows.now in
+    let below : c.loop-row.row-index < c.held_len.result = omega arith in
+    let read = get_or-take (c.held_len.result - 0) c.args.rows.now c.loop-row.row-index c.row-item.result (omega arith) in
+    let step = at_row (value_under g.K.Key.same c.args.key) c.args.count.now c.args.rows.now c.loop-row.row-index _ c.held_len.ensures.value c.row-item.result below in
     search rules
 
 pub returns : goal.returns
 returns g c =
-    let len = length-take (c.held-len.result - 0) c.args.rows.now in
-    let past : c.held-len.result ≤ c.loop-row.row-index = omega arith in
-    let step = past_rows (value_under g.K.Key.same c.args.key) c.args.count.now c.args.rows.now c.loop-row.row-index _ c.held-len.ensures.value past in
+    let len = length-take (c.held_len.result - 0) c.args.rows.now in
+    let past : c.held_len.result ≤ c.loop-row.row-index = omega arith in
+    let step = past_rows (value_under g.K.Key.same c.args.key) c.args.count.now c.args.rows.now c.loop-row.row-index _ c.held_len.ensures.value past in
     search rules
