@@ -32,7 +32,7 @@ pub(crate) fn is_header_of(card: &[u8], name: [u8; 8]) -> bool
     requires { length card.now ≡ 80 }
     ensures { result ≡ is_header_of name card.now }
 {
-    is_header(card) && &card[4..12] == &name
+    is_header(card) && &card[4..12] == name.as_slice()
 }
 
 // How many cards stand from a place up to the next header.

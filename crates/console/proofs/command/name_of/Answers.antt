@@ -4,12 +4,12 @@ use Rattle.console.specs.Typed.{punched_over}
 use Rattle.console.proofs.Typing.{turn, name_fits}
 use Rattle.console.proofs.command.name_of.Goals as goal
 
-pub returns-in-default : goal.returns-in-default
-returns-in-default c =
+pub returns-in_default : goal.returns-in_default
+returns-in_default c =
     sym
     (name_fits c.args.characters.now c.if-characters-gt8.false
     ∙ c.loop-i.invariant
-    ∙ turn c.loop-i.bytes c.loop-i.i c.args.characters.now None c.loop-i-test.true c.in-default.ensures.value)
+    ∙ turn c.loop-i.bytes c.loop-i.i c.args.characters.now None c.loop-i-test.true c.in_default.ensures.value)
 
 pub loop-i-preserved : goal.loop-i-preserved
 loop-i-preserved c =

@@ -5,8 +5,8 @@ use Rattle.console.proofs.row.row_text.Goals as goal
 
 pub returns : goal.returns
 returns c =
-    let p = c.name-text-name.result in
-    let k = c.kind-text-kind.result in
+    let p = c.name_text-name.result in
+    let k = c.kind_text-kind.result in
     let a = c.hex6-address.result in
     let b = c.hex6-length.result in
     let row = c.args.line in
@@ -15,7 +15,7 @@ returns c =
     let ha : length a ≡ 6 = search rules in
     let hb : length b ≡ 6 = search rules in
     sym (parted_cells p k a b hp hk ha hb)
-    ∙ ap (λ (x : List ℕ). parted x k a b) c.name-text-name.ensures
-    ∙ ap (λ (x : List ℕ). parted (name_text row.name) x a b) c.kind-text-kind.ensures
+    ∙ ap (λ (x : List ℕ). parted x k a b) c.name_text-name.ensures
+    ∙ ap (λ (x : List ℕ). parted (name_text row.name) x a b) c.kind_text-kind.ensures
     ∙ ap (λ (x : List ℕ). parted (name_text row.name) (kind_text row.kind) x b) c.hex6-address.ensures
     ∙ ap (λ (x : List ℕ). parted (name_text row.name) (kind_text row.kind) (hex_text row.address) x) c.hex6-length.ensures

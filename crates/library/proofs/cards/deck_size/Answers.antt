@@ -3,8 +3,8 @@ use Rattle.library.specs.Decks.{deck}
 use Rattle.library.proofs.Trays.{at_card, past_cards}
 use Rattle.library.proofs.cards.deck_size.Goals as goal
 
-pub returns-then-is-header : goal.returns-then-is-header
-returns-then-is-header c =
+pub returns-then-is_header : goal.returns-then-is_header
+returns-then-is_header c =
     let step = at_card (λ x. length (deck x)) c.args.bytes.now c.loop-k.k c.loop-k-test.true in
     search rules
 

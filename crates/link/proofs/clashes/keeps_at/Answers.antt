@@ -6,4 +6,4 @@ pub returns-then-place-items : goal.returns-then-place-items
 returns-then-place-items c = let e = slice_get_past c.args.items.now c.args.place c.if-place-items.true in search rules
 
 pub returns : goal.returns
-returns c = let h = c.keeps-kind.ensures in search (rules, slice_get-get_or)
+returns c = let h = c.keeps_kind.ensures in search (rules, slice_get-get_or)

@@ -15,8 +15,8 @@ returns-in-Copied g c =
       filled = let read = copied_changed pairs (slot_at below c.args.i) c.args.into.now c.in-Copied.ensures.answer in search rules;
     }
 
-pub returns-in-default : goal.returns-in-default
-returns-in-default g c =
+pub returns-in_default : goal.returns-in_default
+returns-in_default g c =
     let pairs = renamings c.args.self.now.pairs in
     let below = g.L.Library.meaning c.args.self.now.below c.args.name in
     let slot = slot_changed pairs below c.args.i in

@@ -11,8 +11,8 @@ returns-then-self-ge-MAX-NAMES c =
     let f = no_place 32 (listed t) (bad_name (listed t) c.args.name) (omega arith) in
     record { answer = search rules; names = search rules }
 
-pub returns-then-is-bad : goal.returns-then-is-bad
-returns-then-is-bad c =
+pub returns-then-is_bad : goal.returns-then-is_bad
+returns-then-is_bad c =
     let t = c.args.self.now in
     let long = length-take-le t.used t.all (omega arith) in
     let bad : bad_name (listed t) c.args.name ≡ true = search rules in

@@ -12,8 +12,8 @@ returns-then-self-ge-MAX-PAIRS c =
     let f = no_place 16 (renamings t) (bad_pair (renamings t) p) (omega arith) in
     record { answer = search rules; pairs = search rules }
 
-pub returns-then-is-bad : goal.returns-then-is-bad
-returns-then-is-bad c =
+pub returns-then-is_bad : goal.returns-then-is_bad
+returns-then-is_bad c =
     let t = c.args.self.now in
     let p : Renaming = record { old = c.args.old; new = c.args.new } in
     let long = read_long renaming t.all t.used (omega arith) in

@@ -4,10 +4,10 @@ use Rattle.library.specs.Found.{has_card}
 use Rattle.library.proofs.Stretches.{none_found, found_past, found_card}
 use Rattle.library.proofs.answer.TrayLibrary.card.Goals as goal
 
-pub returns-in-default : goal.returns-in-default
-returns-in-default c =
+pub returns-in_default : goal.returns-in_default
+returns-in_default c =
     let bytes = vec_items c.args.self.now.bytes in
-    let none = none_found (under c.args.name.bytes (cards_of bytes)) c.in-default.ensures.known in
+    let none = none_found (under c.args.name.bytes (cards_of bytes)) c.in_default.ensures.known in
     record { same = search rules; answer = search rules; filled = search rules }
 
 pub returns-then-not-has : goal.returns-then-not-has

@@ -6,5 +6,5 @@ use Rattle.library.proofs.answer.TrayLibrary.count.Goals as goal
 pub returns : goal.returns
 returns c =
     let bytes = vec_items c.args.self.now.bytes in
-    let count = found_count bytes (under c.args.name.bytes (cards_of bytes)) c.in-ok-found.found c.in-ok-found.ensures.known c.in-ok-found.ensures.valid c.in-ok-found.ensures.within in
+    let count = found_count bytes (under c.args.name.bytes (cards_of bytes)) c.in_ok-found.found c.in_ok-found.ensures.known c.in_ok-found.ensures.valid c.in_ok-found.ensures.within in
     record { same = search rules; answer = search rules }
