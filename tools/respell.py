@@ -17,8 +17,15 @@ GOAL = re.compile(r":\s*goal\.")
 MEMBER = re.compile(r"^ +pub ([A-Za-z_][A-Za-z0-9_'\-]*) :")
 
 
-# A lemma on what one function gives of another keeps its dash, and one that would have its function's name ends in _lem.
-BY_HAND = {"getD-cards": "get_or-cards", "length-cards": "length-cards", "from1-at": "from1-at", "slot-at": "slot_at_lem"}
+# A lemma on what one function gives of another keeps its dash, one that would have its function's name ends in _lem,
+# and one that would fall together with a definition has another name.
+BY_HAND = {
+    "getD-cards": "get_or-cards",
+    "length-cards": "length-cards",
+    "from1-at": "from1-at",
+    "slot-at": "slot_at_lem",
+    "bad-name": "bad_refused",
+}
 
 
 def new_name(name):

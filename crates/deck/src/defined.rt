@@ -43,7 +43,7 @@ impl Defined {
                 self.all.push_reserved(name.number());
             }
         }
-        self.all.sort();
+        self.all.sort_unstable();
     }
 
     // Whether two neighbours are one: where none are, no name comes twice.

@@ -39,7 +39,7 @@ impl Spots {
             };
             self.all.push_reserved(spot);
         }
-        self.all.sort();
+        self.all.sort_unstable();
     }
 
     // Whether two neighbours overlap: where none do, no two constants do.

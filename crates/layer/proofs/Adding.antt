@@ -14,8 +14,8 @@ module _ {X : Type 0} (places : ℕ) (xs : List X) (bad : Bool) where
   room : length xs < places → fault_of places xs bad ≡ cond bad (Some BadName) None
   room h = ap (λ b. cond b (Some TableFull) (cond bad (Some BadName) None)) (lt-leb places (length xs) h)
 
-  pub bad_name : length xs < places → bad ≡ true → fault_of places xs bad ≡ Some BadName
-  bad_name h e = room h ∙ ap (λ b. cond b (Some BadName) None) e
+  pub bad_refused : length xs < places → bad ≡ true → fault_of places xs bad ≡ Some BadName
+  bad_refused h e = room h ∙ ap (λ b. cond b (Some BadName) None) e
 
   pub no_fault : length xs < places → bad ≡ false → fault_of places xs bad ≡ None
   no_fault h e = room h ∙ ap (λ b. cond b (Some BadName) None) e
