@@ -9,5 +9,5 @@ pub returns : goal.returns
 returns c =
     let line = c.args.line.now in
     let e : c.letter_command.result ≡ command_of line = search (rules, by_letter) in
-    let bytes : Bytes line = λ i. let f = c.type-inv.line i in search rules in
+    let bytes : Bytes line = λ i. let f = c.type_inv.line i in search rules in
     record { value = e; says = subst (λ (o : Option Command). Given o (Says line)) (sym e) (line_says line bytes) }
