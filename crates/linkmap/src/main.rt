@@ -36,7 +36,10 @@ fn open_tray(bytes: Vec<u8>) -> Result<Tray, LibraryFault>
 fn converse(rt: &HostRuntime, opened: Session) -> (Session, io::Result<()>) {
     let mut session = opened;
     let mut ids = IdTable::new();
-    let mut input = BufReader::new(rt.stdin());
+    let mut input = match BufReader::new(rt.alloc(), rt.stdin()) {
+        Ok(input) => input,
+        Err(e) => return (session, Err(e)),
+    };
     let mut line = Vec::new(rt.alloc());
     for _ in 0..u64::MAX {
         line.clear();
