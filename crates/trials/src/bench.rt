@@ -5,7 +5,8 @@ use deck::IdRows;
 use library::{Library, Tray};
 use link::{Area, Called, Link, LinkFault, MapKind, OpenNames, Program, Room};
 use std::alloc::{AllocError, Global};
-use std::test::*;
+use std::process::Abort;
+use std::test::Fail;
 use table::{Count, Row};
 
 // What a refusal tells.
@@ -199,15 +200,14 @@ fn area_of(size: u32) -> Result<Area, Fail> {
 }
 
 // The map has these lines and no other.
-fn check_map<L>(program: &Program<L>, rows: &[MapRow]) -> Result<(), Fail> {
-    assert_eq!(shown_line(program, 0), None);
+fn check_map<L>(rt: &impl Abort, program: &Program<L>, rows: &[MapRow], why: &str) {
+    assert_eq!(rt; shown_line(program, 0), None, "{why}");
     let mut n = 1usize;
     for row in rows {
-        assert_eq!(shown_line(program, n), Some(shown_row(*row)));
+        assert_eq!(rt; shown_line(program, n), Some(shown_row(*row)), "{why}");
         n = n.saturating_add(1);
     }
-    assert_eq!(shown_line(program, n), None);
-    Ok(())
+    assert_eq!(rt; shown_line(program, n), None, "{why}");
 }
 
 // The entry, or what the program is refused with.
@@ -219,29 +219,33 @@ fn entry_of<L>(program: &Program<L>) -> Result<u32, Told> {
 }
 
 // The fix gave what it should, and the check before it answered so too.
-fn check_fix<L>(program: &Program<L>, checked: Answer, fixed: Result<u32, u8>) -> Result<(), Fail> {
+fn check_fix<L>(
+    rt: &impl Abort,
+    program: &Program<L>,
+    checked: Answer,
+    fixed: Result<u32, u8>,
+    why: &str,
+) {
     match fixed {
         Ok(entry) => {
-            assert_eq!(checked, Answer::Done);
-            assert_eq!(entry_of(program), Ok(entry));
-            Ok(())
+            assert_eq!(rt; checked, Answer::Done, "{why}");
+            assert_eq!(rt; entry_of(program), Ok(entry), "{why}");
         }
         Err(number) => {
             let told = telling(number, "", 0);
-            assert_eq!(checked, Answer::Refused(told));
-            assert_eq!(entry_of(program), Err(told));
-            check_map(program, &[])
+            assert_eq!(rt; checked, Answer::Refused(told), "{why}");
+            assert_eq!(rt; entry_of(program), Err(told), "{why}");
+            check_map(rt, program, &[], why);
         }
     }
 }
 
-fn check_program<L>(program: &Program<L>, checked: Answer, plan: Plan<'_>) -> Result<(), Fail> {
+fn check_program<L>(rt: &impl Abort, program: &Program<L>, checked: Answer, plan: Plan<'_>) {
     if let Some(fixed) = plan.fixed {
-        check_fix(program, checked, fixed)?;
+        check_fix(rt, program, checked, fixed, plan.why);
     }
-    match plan.map {
-        Some(rows) => check_map(program, rows),
-        None => Ok(()),
+    if let Some(rows) = plan.map {
+        check_map(rt, program, rows, plan.why);
     }
 }
 
@@ -264,40 +268,39 @@ impl Bench {
     }
 
     // Makes the steps, each of which has to answer as expected.
-    fn gather<L: Library>(
-        &mut self,
-        link: &mut Link<L>,
-        steps: &[(Step, Expected)],
-    ) -> Result<(), Fail> {
-        for (step, expected) in steps {
-            assert_eq!(self.make(link, *step), expected_answer(*expected));
+    fn gather<L: Library>(&mut self, rt: &impl Abort, link: &mut Link<L>, plan: Plan<'_>) {
+        for (step, expected) in plan.steps {
+            let answer = self.make(link, *step);
+            assert_eq!(rt; answer, expected_answer(*expected), "{}", plan.why);
         }
-        Ok(())
     }
 
-    // Links a library as planned; the link is scrapped also where an answer is wrong.
+    // Links a library as planned.
     pub(crate) fn link<L: Library + Drop>(
         &mut self,
+        rt: &impl Abort,
         library: L,
         plan: Plan<'_>,
     ) -> Result<(), Fail> {
         let area = area_of(plan.size)?;
         let room = self.room.take().ok_or("the room is gone")?;
         let mut link = Link::open(library, area, room);
-        let gathered = self.gather(&mut link, plan.steps);
+        self.gather(rt, &mut link, plan);
         let checked = done(link.check(plan.open));
         let program = link.fix(plan.open);
-        let result = match gathered {
-            Ok(()) => check_program(&program, checked, plan),
-            Err(fail) => Err(fail),
-        };
+        check_program(rt, &program, checked, plan);
         let (_, room) = program.scrap();
         self.room = Some(room);
-        result.note(plan.why)
+        Ok(())
     }
 
     // The same over a tray of these bytes.
-    pub(crate) fn link_tray(&mut self, tray: Vec<u8>, plan: Plan<'_>) -> Result<(), Fail> {
-        self.link(open_tray(tray)?, plan)
+    pub(crate) fn link_tray(
+        &mut self,
+        rt: &impl Abort,
+        tray: Vec<u8>,
+        plan: Plan<'_>,
+    ) -> Result<(), Fail> {
+        self.link(rt, open_tray(tray)?, plan)
     }
 }

@@ -5,7 +5,7 @@ use crate::cases::{MapCase, try_all};
 use crate::punch::Card::*;
 use crate::punch::Item::*;
 use crate::punch::{Deck, SYM};
-use std::test::*;
+use std::test::Fail;
 
 const CALLS: &[MapCase] = &[
     MapCase {
@@ -164,10 +164,10 @@ const REFUSALS: &[MapCase] = &[
 
 #[test]
 fn calls_and_marks(rt: HostRuntime) -> Result<(), Fail> {
-    try_all(rt.alloc(), CALLS)
+    try_all(&rt, rt.alloc(), CALLS)
 }
 
 #[test]
 fn refusals_change_nothing(rt: HostRuntime) -> Result<(), Fail> {
-    try_all(rt.alloc(), REFUSALS)
+    try_all(&rt, rt.alloc(), REFUSALS)
 }

@@ -4,7 +4,7 @@ use crate::punch::Card::*;
 use crate::punch::Item::*;
 use crate::punch::Place::*;
 use crate::punch::{END, ESD, RLD, SYM, TXT};
-use std::test::*;
+use std::test::Fail;
 
 const MOD: [u8; 3] = [0xD4, 0xD6, 0xC4];
 
@@ -255,25 +255,25 @@ const CONSTANTS: &[DeckCase] = &[
 
 #[test]
 fn kinds_and_ends(rt: HostRuntime) -> Result<(), Fail> {
-    try_all(rt.alloc(), KINDS)
+    try_all(&rt, rt.alloc(), KINDS)
 }
 
 #[test]
 fn byte_counts(rt: HostRuntime) -> Result<(), Fail> {
-    try_all(rt.alloc(), COUNTS)
+    try_all(&rt, rt.alloc(), COUNTS)
 }
 
 #[test]
 fn items(rt: HostRuntime) -> Result<(), Fail> {
-    try_all(rt.alloc(), ITEMS)
+    try_all(&rt, rt.alloc(), ITEMS)
 }
 
 #[test]
 fn ids(rt: HostRuntime) -> Result<(), Fail> {
-    try_all(rt.alloc(), IDS)
+    try_all(&rt, rt.alloc(), IDS)
 }
 
 #[test]
 fn relocation_items(rt: HostRuntime) -> Result<(), Fail> {
-    try_all(rt.alloc(), CONSTANTS)
+    try_all(&rt, rt.alloc(), CONSTANTS)
 }

@@ -3,11 +3,12 @@ use crate::bench::{Bench, Expected, MapRow, Plan, Step};
 use crate::punch::{Card, Deck, add_deck, tray_of};
 use link::OpenNames;
 use std::alloc::{AllocError, Global};
-use std::test::*;
+use std::process::Abort;
+use std::test::Fail;
 
 // A case of a table.
 pub(crate) trait Case {
-    fn passes(&self, bench: &mut Bench) -> Result<(), Fail>;
+    fn passes(&self, rt: &impl Abort, bench: &mut Bench) -> Result<(), Fail>;
 }
 
 // What is tried, a deck's cards, and the number and card that its include is refused with.
@@ -74,7 +75,7 @@ fn include_steps(
 }
 
 impl Case for DeckCase {
-    fn passes(&self, bench: &mut Bench) -> Result<(), Fail> {
+    fn passes(&self, rt: &impl Abort, bench: &mut Bench) -> Result<(), Fail> {
         let mut tray = Vec::new(bench.heap);
         add_deck(&mut tray, "D", self.1)?;
         let plan = Plan {
@@ -85,12 +86,12 @@ impl Case for DeckCase {
             fixed: None,
             map: None,
         };
-        bench.link_tray(tray, plan)
+        bench.link_tray(rt, tray, plan)
     }
 }
 
 impl Case for IncludeCase {
-    fn passes(&self, bench: &mut Bench) -> Result<(), Fail> {
+    fn passes(&self, rt: &impl Abort, bench: &mut Bench) -> Result<(), Fail> {
         let steps = include_steps(bench.heap, self.decks, self.told)?;
         let plan = Plan {
             why: self.why,
@@ -100,12 +101,12 @@ impl Case for IncludeCase {
             fixed: None,
             map: None,
         };
-        bench.link_tray(tray_of(bench.heap, self.decks)?, plan)
+        bench.link_tray(rt, tray_of(bench.heap, self.decks)?, plan)
     }
 }
 
 impl Case for FixCase {
-    fn passes(&self, bench: &mut Bench) -> Result<(), Fail> {
+    fn passes(&self, rt: &impl Abort, bench: &mut Bench) -> Result<(), Fail> {
         let plan = Plan {
             why: self.why,
             size: 24,
@@ -114,12 +115,12 @@ impl Case for FixCase {
             fixed: Some(self.fixed),
             map: None,
         };
-        bench.link_tray(tray_of(bench.heap, self.decks)?, plan)
+        bench.link_tray(rt, tray_of(bench.heap, self.decks)?, plan)
     }
 }
 
 impl Case for MapCase {
-    fn passes(&self, bench: &mut Bench) -> Result<(), Fail> {
+    fn passes(&self, rt: &impl Abort, bench: &mut Bench) -> Result<(), Fail> {
         let plan = Plan {
             why: self.why,
             size: self.size,
@@ -128,15 +129,15 @@ impl Case for MapCase {
             fixed: Some(Ok(self.entry)),
             map: Some(self.map),
         };
-        bench.link_tray(tray_of(bench.heap, self.decks)?, plan)
+        bench.link_tray(rt, tray_of(bench.heap, self.decks)?, plan)
     }
 }
 
 // Tries all cases of a table.
-pub(crate) fn try_all<C: Case>(heap: Global, cases: &[C]) -> Result<(), Fail> {
+pub(crate) fn try_all<C: Case>(rt: &impl Abort, heap: Global, cases: &[C]) -> Result<(), Fail> {
     let mut bench = Bench::new(heap)?;
     for case in cases {
-        case.passes(&mut bench)?;
+        case.passes(rt, &mut bench)?;
     }
     Ok(())
 }

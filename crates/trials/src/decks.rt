@@ -3,7 +3,7 @@ use crate::cases::{DeckCase, try_all};
 use crate::punch::Card::*;
 use crate::punch::Item::*;
 use crate::punch::Place::*;
-use std::test::*;
+use std::test::Fail;
 
 const USES: &[DeckCase] = &[
     DeckCase(
@@ -473,25 +473,25 @@ const NAMES: &[DeckCase] = &[
 
 #[test]
 fn uses_of_ids(rt: HostRuntime) -> Result<(), Fail> {
-    try_all(rt.alloc(), USES)
+    try_all(&rt, rt.alloc(), USES)
 }
 
 #[test]
 fn section_lengths(rt: HostRuntime) -> Result<(), Fail> {
-    try_all(rt.alloc(), LENGTHS)
+    try_all(&rt, rt.alloc(), LENGTHS)
 }
 
 #[test]
 fn places(rt: HostRuntime) -> Result<(), Fail> {
-    try_all(rt.alloc(), PLACES)
+    try_all(&rt, rt.alloc(), PLACES)
 }
 
 #[test]
 fn overlaps(rt: HostRuntime) -> Result<(), Fail> {
-    try_all(rt.alloc(), OVERLAPS)
+    try_all(&rt, rt.alloc(), OVERLAPS)
 }
 
 #[test]
 fn defined_twice(rt: HostRuntime) -> Result<(), Fail> {
-    try_all(rt.alloc(), NAMES)
+    try_all(&rt, rt.alloc(), NAMES)
 }

@@ -6,7 +6,7 @@ use crate::punch::Card::*;
 use crate::punch::Deck;
 use crate::punch::Item::*;
 use link::OpenNames::{Permitted, Refused};
-use std::test::*;
+use std::test::Fail;
 
 const REFUSED: &[FixCase] = &[
     FixCase {
@@ -224,10 +224,10 @@ const ENTRIES: &[FixCase] = &[
 
 #[test]
 fn refused_fixes(rt: HostRuntime) -> Result<(), Fail> {
-    try_all(rt.alloc(), REFUSED)
+    try_all(&rt, rt.alloc(), REFUSED)
 }
 
 #[test]
 fn entry_points(rt: HostRuntime) -> Result<(), Fail> {
-    try_all(rt.alloc(), ENTRIES)
+    try_all(&rt, rt.alloc(), ENTRIES)
 }

@@ -10,7 +10,8 @@ use crate::punch::{SYM, punch};
 use card::Name;
 use library::{CardAnswer, Library};
 use link::OpenNames;
-use std::test::*;
+use std::process::Abort;
+use std::test::Fail;
 
 // Under every name a deck of two cards, of which the second is flawed with the mark 7.
 #[derive(Drop)]
@@ -45,7 +46,7 @@ impl Library for Marred {
 struct FlawCase(u8, Expected);
 
 impl Case for FlawCase {
-    fn passes(&self, bench: &mut Bench) -> Result<(), Fail> {
+    fn passes(&self, rt: &impl Abort, bench: &mut Bench) -> Result<(), Fail> {
         let library = Marred {
             first: punch(Plain(self.0, SYM, 0)),
         };
@@ -57,7 +58,7 @@ impl Case for FlawCase {
             fixed: None,
             map: None,
         };
-        bench.link(library, plan)
+        bench.link(rt, library, plan)
     }
 }
 
@@ -69,5 +70,5 @@ const CASES: &[FlawCase] = &[
 
 #[test]
 fn flawed_cards(rt: HostRuntime) -> Result<(), Fail> {
-    try_all(rt.alloc(), CASES)
+    try_all(&rt, rt.alloc(), CASES)
 }

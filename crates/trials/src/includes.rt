@@ -3,7 +3,7 @@ use crate::cases::{IncludeCase, try_all};
 use crate::punch::Card::*;
 use crate::punch::Item::*;
 use crate::punch::{Deck, SYM};
-use std::test::*;
+use std::test::Fail;
 
 const CLASHES: &[IncludeCase] = &[
     IncludeCase {
@@ -253,15 +253,15 @@ const AREAS: &[IncludeCase] = &[
 
 #[test]
 fn clashes_of_labels(rt: HostRuntime) -> Result<(), Fail> {
-    try_all(rt.alloc(), CLASHES)
+    try_all(&rt, rt.alloc(), CLASHES)
 }
 
 #[test]
 fn commons_and_sections(rt: HostRuntime) -> Result<(), Fail> {
-    try_all(rt.alloc(), COMMONS)
+    try_all(&rt, rt.alloc(), COMMONS)
 }
 
 #[test]
 fn ends_of_the_area(rt: HostRuntime) -> Result<(), Fail> {
-    try_all(rt.alloc(), AREAS)
+    try_all(&rt, rt.alloc(), AREAS)
 }

@@ -8,7 +8,8 @@ use crate::punch::Item::*;
 use crate::punch::{Deck, SYM, add_cards, add_header, tray_of};
 use link::OpenNames;
 use std::alloc::{AllocError, Global};
-use std::test::*;
+use std::process::Abort;
+use std::test::Fail;
 
 // One deck is taken so many times, and then the steps are made.
 #[derive(Clone, Copy)]
@@ -100,7 +101,7 @@ impl ManyCase {
 }
 
 impl Case for ManyCase {
-    fn passes(&self, bench: &mut Bench) -> Result<(), Fail> {
+    fn passes(&self, rt: &impl Abort, bench: &mut Bench) -> Result<(), Fail> {
         let steps = self.all_steps(bench.heap)?;
         let plan = Plan {
             why: self.why,
@@ -110,11 +111,11 @@ impl Case for ManyCase {
             fixed: None,
             map: None,
         };
-        bench.link_tray(large_tray(bench.heap)?, plan)
+        bench.link_tray(rt, large_tray(bench.heap)?, plan)
     }
 }
 
 #[test]
 fn largest_decks_and_links(rt: HostRuntime) -> Result<(), Fail> {
-    try_all(rt.alloc(), CASES)
+    try_all(&rt, rt.alloc(), CASES)
 }

@@ -6,7 +6,7 @@ use crate::punch::Card::*;
 use crate::punch::Item::*;
 use crate::punch::Place::*;
 use crate::punch::{Card, Deck};
-use std::test::*;
+use std::test::Fail;
 
 const WORKED: &[MapCase] = &[
     MapCase {
@@ -253,10 +253,10 @@ const MODULE_MAP: &[MapCase] = &[
 
 #[test]
 fn small_programs(rt: HostRuntime) -> Result<(), Fail> {
-    try_all(rt.alloc(), WORKED)
+    try_all(&rt, rt.alloc(), WORKED)
 }
 
 #[test]
 fn module_map(rt: HostRuntime) -> Result<(), Fail> {
-    try_all(rt.alloc(), MODULE_MAP)
+    try_all(&rt, rt.alloc(), MODULE_MAP)
 }

@@ -5,7 +5,7 @@ use crate::punch::{Deck, add_cards, add_header, tray_of};
 use library::Tray;
 use link::Area;
 use std::alloc::{AllocError, Global};
-use std::test::*;
+use std::test::Fail;
 
 // The bytes of a tray.
 #[derive(Clone, Copy)]
