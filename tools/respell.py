@@ -2,7 +2,7 @@
 """respell.py [ROOT]: brings the names of this repository's definitions and lemmas to today's spelling, once.
 
 A function or a lemma is in snake case, a type in camel case with no dash. The names are those that specs/ and
-proofs/ declare, their record fields and constructors among them, but not the goals that Rattle names. In src/ and
+proofs/ declare, those of record fields and of modules inside a file among them, but not the goals that Rattle names. In src/ and
 must-fail/ such a name stands in clauses alone, as no name of a program has a dash or a capital inside.
 Prints each new name, and each that falls together with another word of a file in which it comes to stand.
 """
@@ -14,7 +14,7 @@ root = Path(sys.argv[1] if len(sys.argv) > 1 else ".")
 WORD = re.compile(r"[A-Za-z_][A-Za-z0-9_'\-]*")
 DECLARED = re.compile(r"^(?:(?:pub|abbrev|unfoldable|data|record|ruleset) +)*([A-Za-z_][A-Za-z0-9_'\-]*)(?: +:| +\()")
 GOAL = re.compile(r":\s*goal\.")
-MEMBER = re.compile(r"^ +pub ([A-Za-z_][A-Za-z0-9_'\-]*) :")
+INNER = re.compile(r"^ +(?:pub )?([A-Za-z_][A-Za-z0-9_'\-]*) :")
 
 
 # A lemma on what one function gives of another keeps its dash, one that would have its function's name ends in _lem,
@@ -23,6 +23,8 @@ BY_HAND = {
     "getD-cards": "get_or-cards",
     "length-cards": "length-cards",
     "from1-at": "from1-at",
+    "at-changed": "at-changed",
+    "from1-changed": "from1-changed",
     "slot-at": "slot_at_lem",
     "bad-name": "bad_refused",
 }
@@ -45,7 +47,7 @@ def declared():
     names = set()
     for path in antt_files():
         for line in path.read_text().split("\n"):
-            found = DECLARED.match(line) or MEMBER.match(line)
+            found = DECLARED.match(line) or INNER.match(line)
             if found and not GOAL.search(line):
                 names.add(found.group(1))
     return names

@@ -1,6 +1,5 @@
 -- Reading an RLD card word by word: what one word more says.
-use Rattle.std.proofs.Common.{◌≡◌, ℕ, suc, ◌+◌, ◌-◌, ◌*◌, ◌<◌, List, [], ◌∷◌, ◌++◌, get_or, Some, None, Option, sym, refl, ap, ◌∙◌, arith}
-use Rattle.card.specs.declared.content.Expected.{Expected}
+use Rattle.std.proofs.Common.{◌≡◌, ℕ, suc, ◌+◌, ◌-◌, ◌*◌, ◌<◌, List, [], ◌∷◌, ◌++◌, get_or, Some, None, Option, ap, ◌∙◌, arith}
 use Rattle.card.specs.declared.content.Expected.TheVariants.{Ids, Constant}
 use Rattle.card.specs.declared.content.Width.{Width}
 use Rattle.card.specs.declared.content.RldItem.{RldItem}
@@ -11,14 +10,14 @@ module _ (words k : ℕ) (below : k < words) (card : List ℕ) (found : List Rld
   one_less : words - k ≡ suc (words - (k + 1))
   one_less = omega arith
 
-  four-on : 16 + 4 * k + 4 ≡ 16 + 4 * (k + 1)
-  four-on = omega arith
+  four_on : 16 + 4 * k + 4 ≡ 16 + 4 * (k + 1)
+  four_on = omega arith
 
   pub ids_read : rld_items (words - k) card (16 + 4 * k) Ids found
       ≡ rld_items (words - (k + 1)) card (16 + 4 * (k + 1)) (Constant (big 2 card (16 + 4 * k)) (big 2 card (16 + 4 * k + 2))) found
   ids_read =
       ap (λ n. rld_items n card (16 + 4 * k) Ids found) one_less
-      ∙ ap (λ a. rld_items (words - (k + 1)) card a (Constant (big 2 card (16 + 4 * k)) (big 2 card (16 + 4 * k + 2))) found) four-on
+      ∙ ap (λ a. rld_items (words - (k + 1)) card a (Constant (big 2 card (16 + 4 * k)) (big 2 card (16 + 4 * k + 2))) found) four_on
 
   by_width : (r p : ℕ) → Option Width → Option (List RldItem)
   by_width r p o = elim o [
@@ -37,4 +36,4 @@ module _ (words k : ℕ) (below : k < words) (card : List ℕ) (found : List Rld
   unfolding by_width
   constant_read r p width e =
       ap (λ n. rld_items n card (16 + 4 * k) (Constant r p) found) one_less ∙ ap (by_width r p) e
-      ∙ ap (λ a. rld_items (words - (k + 1)) card a (after_flag (get_or card (16 + 4 * k) 0) r p) (found ++ constant_at card (16 + 4 * k) r p width ∷ [])) four-on
+      ∙ ap (λ a. rld_items (words - (k + 1)) card a (after_flag (get_or card (16 + 4 * k) 0) r p) (found ++ constant_at card (16 + 4 * k) r p width ∷ [])) four_on

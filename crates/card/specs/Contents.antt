@@ -1,5 +1,5 @@
 -- What a card says, and when it is refused.
-use Rattle.std.specs.Prelude.{ℕ, ◌/◌, ◌%◌, Bool, true, false, cond, not, ◌&&◌, ◌||◌, List, [], ◌∷◌, take, Some, None, Ok, Err, Option, Result, ◌==◌, nat_le}
+use Rattle.std.specs.Prelude.{ℕ, ◌/◌, ◌%◌, Bool, cond, not, ◌&&◌, List, [], ◌∷◌, take, Some, None, Ok, Err, Option, Result, ◌==◌, nat_le}
 use Rattle.card.specs.declared.content.CardKind.{CardKind}
 use Rattle.card.specs.declared.content.CardKind.TheVariants as kind
 use Rattle.card.specs.declared.content.EsdItem.{EsdItem}

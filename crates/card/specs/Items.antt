@@ -1,5 +1,5 @@
 -- What the items and fields of a card say, one definition a rule.
-use Rattle.std.specs.Prelude.{ℕ, zero, suc, ◌+◌, ◌*◌, ◌/◌, ◌%◌, Bool, true, false, cond, not, ◌&&◌, ◌||◌, List, [], ◌∷◌, ◌++◌, take, drop, Some, None, Option, ◌==◌, nat_le, slice_index}
+use Rattle.std.specs.Prelude.{ℕ, zero, suc, ◌+◌, ◌/◌, ◌%◌, Bool, cond, ◌||◌, List, [], ◌∷◌, ◌++◌, take, drop, Some, None, Option, ◌==◌, nat_le, slice_index}
 use Rattle.card.specs.declared.name.Name.{Name}
 use Rattle.card.specs.declared.content.Strength.TheVariants.{Strong, Weak}
 use Rattle.card.specs.declared.content.EsdItem.{EsdItem}

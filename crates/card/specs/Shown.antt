@@ -1,5 +1,5 @@
 -- How bytes print.
-use Rattle.std.specs.Prelude.{◌≡◌, ℕ, ◌+◌, ◌-◌, ◌<◌, Bool, true, false, cond, ◌&&◌, ◌⊎◌, ◌==◌, nat_le}
+use Rattle.std.specs.Prelude.{◌≡◌, ℕ, ◌+◌, ◌-◌, ◌<◌, Bool, cond, ◌&&◌, ◌==◌, nat_le}
 
 abbrev pub within : ℕ → ℕ → ℕ → Bool
 within low b high = nat_le low b && nat_le b high

@@ -1,5 +1,5 @@
 -- What lies outside its section.
-use Rattle.std.specs.Prelude.{ℕ, ◌+◌, Bool, true, false, cond, ◌||◌, List, length, Some, None, Option, nat_lt}
+use Rattle.std.specs.Prelude.{ℕ, ◌+◌, Bool, true, false, ◌||◌, List, Some, None, Option, nat_lt}
 use Rattle.std.specs.List.{slice_get}
 use Rattle.card.specs.declared.content.Width.{Width}
 use Rattle.card.specs.declared.content.Width.TheVariants.{Three, Four}

@@ -1,5 +1,5 @@
 -- Constants that share bytes.
-use Rattle.std.specs.Prelude.{ℕ, ◌+◌, Bool, not, ◌&&◌, ◌==◌, nat_lt}
+use Rattle.std.specs.Prelude.{◌+◌, Bool, not, ◌&&◌, ◌==◌, nat_lt}
 use Rattle.deck.specs.declared.content.Constant.{Constant}
 use Rattle.deck.specs.Bounds.{width_of}
 

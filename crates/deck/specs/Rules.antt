@@ -1,5 +1,5 @@
 -- The smallest card of those that break a rule.
-use Rattle.std.specs.Prelude.{ℕ, Bool, true, false, cond, ◌||◌, List, [], ◌∷◌, ◌++◌, Some, None, Option, nat_lt}
+use Rattle.std.specs.Prelude.{ℕ, Bool, true, false, cond, List, [], ◌∷◌, ◌++◌, Some, None, Option, nat_lt}
 
 -- the smaller of a card found before, if any, and another
 abbrev pub lower : Option ℕ → ℕ → Option ℕ

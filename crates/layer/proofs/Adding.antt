@@ -1,9 +1,8 @@
 -- Additions to a table, by the tests and the write that the code makes.
-use Rattle.std.proofs.Common.{◌≡◌, ℕ, ◌+◌, ◌<◌, ◌≤◌, Bool, true, false, cond, leb, List, [], ◌∷◌, ◌++◌, map, length, take, set, Some, None, sym, ap, ◌∙◌, le-leb}
+use Rattle.std.proofs.Common.{◌≡◌, ℕ, ◌+◌, ◌<◌, ◌≤◌, Bool, true, false, cond, List, [], ◌∷◌, ◌++◌, map, length, take, set, Some, None, ap, ◌∙◌, le-leb}
 use lib.ListN.{length-map}
 use borrow.Author.Tests.{lt-leb}
 use Rattle.std.proofs.lemmas.List.{length-take-le, take_more_set, map_push}
-use Rattle.library.specs.declared.fault.LibraryFault.{LibraryFault}
 use Rattle.library.specs.declared.fault.LibraryFault.TheVariants.{TableFull, BadName}
 use Rattle.layer.specs.Additions.{fault_of}
 

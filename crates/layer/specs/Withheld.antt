@@ -1,5 +1,5 @@
 -- What a library means where names are withheld.
-use Rattle.std.specs.Prelude.{Bool, true, false, cond, ◌||◌, List, [], ◌∷◌, take, Some, None, Option}
+use Rattle.std.specs.Prelude.{Bool, true, false, cond, ◌||◌, List, [], ◌∷◌, take, None, Option}
 use Rattle.card.specs.declared.name.Name.{Name}
 use Rattle.card.specs.Names.{same_name, is_blank}
 use Rattle.library.specs.declared.fault.LibraryFault.{LibraryFault}

@@ -1,9 +1,7 @@
 -- The test of line names decides whether they are one.
-use Rattle.std.specs.Prelude.{◌≡◌, ℕ, Bool, true, false, List, Decides, refl}
+use Rattle.std.specs.Prelude.{◌≡◌, ℕ, List, Decides, refl}
 use Rattle.std.proofs.Common.{ap, arith}
 use Rattle.std.proofs.lemmas.Slice.Eq.{bytes_eq-Decides}
-use Rattle.card.specs.declared.name.Name.{Name}
-use Rattle.card.specs.Names.{same_name}
 use Rattle.link.specs.declared.lines.LineName.{LineName}
 use Rattle.link.specs.declared.lines.LineName.TheVariants.{Named, Private}
 use Rattle.link.specs.Lines.{same_line_name}

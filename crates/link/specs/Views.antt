@@ -1,5 +1,5 @@
 -- What a link means: its lines, what it keeps of the decks taken, and how far it has come.
-use Rattle.std.specs.Prelude.{ℕ, Bool, true, false, cond, List, [], map, Some, None, Ok, Err, vec_items, Result}
+use Rattle.std.specs.Prelude.{ℕ, false, cond, List, [], map, Some, None, Ok, Err, vec_items, Result}
 use Rattle.card.specs.declared.name.Name.{Name}
 use Rattle.card.specs.Names.{is_blank}
 use Rattle.table.specs.declared.Row.{Row}

@@ -1,4 +1,4 @@
-use Rattle.std.proofs.Common.{◌≡◌, ◌<◌, length, take, sym, ◌∙◌, rules}
+use Rattle.std.proofs.Common.{◌<◌, length, take, sym, rules}
 use Rattle.std.proofs.lemmas.List.{take_more_set}
 use Rattle.card.proofs.Words.{ids_read, constant_bad, constant_read}
 use Rattle.card.proofs.rld.rld_items.Goals as goal
