@@ -1,5 +1,5 @@
 // How bytes print: a table from EBCDIC to ASCII, and back.
-ghost use Rattle.std.specs.Prelude.{◌≡◌, ℕ, ◌<◌, MatchOption};
+ghost use Rattle.std.specs.Prelude.{◌≡◌, MatchOption};
 ghost use Rattle.card.specs.Shown.{shown, Unprintable, Prints};
 
 // For each byte the character that it prints as; a full stop where it has none of its own.

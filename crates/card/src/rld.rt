@@ -1,7 +1,7 @@
 // RLD cards: the address constants of a deck.
-ghost use Rattle.std.specs.Prelude.{◌≡◌, ℕ, ◌+◌, ◌/◌, ◌<◌, ◌≤◌, [], length, take};
+ghost use Rattle.std.specs.Prelude.{◌≡◌, ◌+◌, ◌≤◌, [], length, take};
 ghost use Rattle.card.specs.declared.content.Expected.TheVariants.{Ids};
-ghost use Rattle.card.specs.Items.{good_width, width_of, flag_sign, after_flag, constant_at, rld_items};
+ghost use Rattle.card.specs.Items.{good_width, flag_sign, after_flag, constant_at, rld_items};
 ghost use Rattle.card.specs.Contents.{rld_says, says, good_rld_count, rld_held};
 
 use crate::content::{Card, Expected, RldCard, RldItem, Sign, Width};

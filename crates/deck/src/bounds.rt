@@ -1,5 +1,5 @@
 // Texts, constants, labels and the entry lie in their sections.
-ghost use Rattle.std.specs.Prelude.{◌≡◌, Bool};
+ghost use Rattle.std.specs.Prelude.{◌≡◌};
 ghost use Rattle.deck.specs.Bounds.{leaves, leaves_item, out_item, out_text, out_constant, width_of};
 
 use crate::content::{Constant, Deck, Entry, Item, ItemKind, Text};

@@ -1,5 +1,5 @@
 // A deck that was read and judged: what the link takes.
-ghost use Rattle.std.specs.Prelude.{◌≡◌, ℕ, ◌+◌, ◌<◌, ◌≤◌, length, vec_len, vec_capacity};
+ghost use Rattle.std.specs.Prelude.{◌≡◌, ◌≤◌, length, vec_len, vec_capacity};
 
 use card::{Name, Sign, Strength, Width};
 use std::alloc::{AllocError, Global};

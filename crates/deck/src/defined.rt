@@ -1,5 +1,5 @@
 // No two items of a deck define one name.
-ghost use Rattle.std.specs.Prelude.{◌≡◌, ℕ, ◌<◌, ◌≤◌, Bool, length, vec_len, vec_capacity};
+ghost use Rattle.std.specs.Prelude.{◌≡◌, ◌≤◌, length};
 ghost use Rattle.deck.specs.Defines.{defines, defines_same};
 
 use crate::content::{Item, ItemKind};

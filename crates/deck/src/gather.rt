@@ -1,5 +1,5 @@
 // Reading the cards of a deck as they are punched.
-ghost use Rattle.std.specs.Prelude.{◌≡◌, ℕ, ◌+◌, ◌*◌, ◌<◌, ◌≤◌, length, IfOk, vec_len, vec_capacity};
+ghost use Rattle.std.specs.Prelude.{◌≡◌, ◌+◌, ◌<◌, ◌≤◌, IfOk, vec_len};
 ghost use Rattle.deck.specs.Gathered.{Room, Grown, Clear};
 ghost use Rattle.card.specs.Names.{number_of};
 ghost use Rattle.library.specs.Slots.{slot_at};

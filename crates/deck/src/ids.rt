@@ -1,5 +1,5 @@
 // The table of a deck's IDs: lent rows, and a count record that is zero again whenever a deck was read.
-ghost use Rattle.std.specs.Prelude.{◌≡◌, ℕ, ◌<◌, ◌≤◌};
+ghost use Rattle.std.specs.Prelude.{◌≡◌};
 
 use crate::punched::PunchedItem;
 use card::{CardAt, CardFault, EsdItem};

@@ -1,5 +1,5 @@
 // Two constants of one section are the same place and width, or share no byte.
-ghost use Rattle.std.specs.Prelude.{◌≡◌, ℕ, ◌<◌, ◌≤◌, Bool, length, vec_items, vec_len, vec_capacity};
+ghost use Rattle.std.specs.Prelude.{◌≤◌, length};
 ghost use Rattle.deck.specs.Overlaps.{overlap};
 
 use crate::bounds::width_of;

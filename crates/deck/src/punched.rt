@@ -1,5 +1,5 @@
 // A deck as it is punched: items, texts and constants in the order of their cards, with IDs.
-ghost use Rattle.std.specs.Prelude.{◌≡◌, ℕ, ◌+◌, ◌<◌, ◌≤◌, List, [], vec_items, vec_len, vec_capacity};
+ghost use Rattle.std.specs.Prelude.{◌≤◌, vec_len, vec_capacity};
 
 use card::{EndCard, EsdItem, RldItem, TxtCard};
 use std::alloc::{AllocError, Global};

@@ -1,5 +1,5 @@
 // From IDs to places: items, texts and constants know each other by their places among the items.
-ghost use Rattle.std.specs.Prelude.{◌≡◌, ℕ, ◌+◌, ◌<◌, ◌≤◌, length, vec_items, vec_len, vec_capacity};
+ghost use Rattle.std.specs.Prelude.{◌≤◌, length};
 
 use crate::content::{Constant, Deck, Entry, Item, ItemKind, Text};
 use crate::ids::{IdRows, Ids};

@@ -1,5 +1,5 @@
 // Room for one deck, and reading a deck into it.
-ghost use Rattle.std.specs.Prelude.{◌≡◌, ℕ, ◌<◌, ◌≤◌, vec_len};
+ghost use Rattle.std.specs.Prelude.{◌≡◌};
 
 use crate::content::Deck;
 use crate::fault::DeckFault;

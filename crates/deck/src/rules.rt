@@ -1,5 +1,5 @@
 // Rules as values: which elements of a list break one, and the smallest card at fault.
-ghost use Rattle.std.specs.Prelude.{◌≡◌, ℕ, ◌<◌, Bool, [], length, None};
+ghost use Rattle.std.specs.Prelude.{◌≡◌, ℕ, Bool, [], None};
 ghost use Rattle.deck.specs.Rules.{lower, worst, meets, latest};
 
 // What is punched on a card.

@@ -1,5 +1,5 @@
 // Room to sort what a deck's rules compare.
-ghost use Rattle.std.specs.Prelude.{◌≤◌, vec_len, vec_capacity};
+ghost use Rattle.std.specs.Prelude.{◌≤◌, vec_capacity};
 
 use std::alloc::{AllocError, Global};
 

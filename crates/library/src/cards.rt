@@ -1,5 +1,5 @@
 // Cards and headers in a tray's bytes.
-ghost use Rattle.std.specs.Prelude.{◌≡◌, ◌+◌, ◌*◌, ◌/◌, ◌<◌, ◌≤◌, length, drop};
+ghost use Rattle.std.specs.Prelude.{◌≡◌, ◌/◌, ◌<◌, ◌≤◌, length, drop};
 ghost use Rattle.library.specs.Decks.{cards_of, card_at, is_header, name_on, is_header_of, deck};
 
 // The card at place k, from 0.

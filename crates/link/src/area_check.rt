@@ -1,5 +1,5 @@
 // Making an area.
-ghost use Rattle.std.specs.Prelude.{◌≡◌, ◌+◌, ◌%◌, ◌≤◌, true, false, MatchResult};
+ghost use Rattle.std.specs.Prelude.{◌≡◌, ◌+◌, ◌≤◌, true, false, MatchResult};
 ghost use Rattle.link.specs.Areas.{origin_or, good_area};
 ghost use Rattle.link.specs.declared.fault.LinkFault.TheVariants.{BadArea};
 

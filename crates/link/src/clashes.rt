@@ -1,5 +1,5 @@
 // What a deck must not define, given the dictionary.
-ghost use Rattle.std.specs.Prelude.{◌≡◌, Bool};
+ghost use Rattle.std.specs.Prelude.{◌≡◌};
 ghost use Rattle.link.specs.Lines.{lines};
 ghost use Rattle.link.specs.Clashes.{state_of, is_section, is_label, is_defined, kept, kept_at, kept_kind, label_clash, common_too_long, passes_section, below_common};
 

@@ -1,5 +1,5 @@
 // Taking a deck's texts and constants over, once nothing can refuse it any more.
-ghost use Rattle.std.specs.Prelude.{◌≡◌, ℕ, ◌+◌, ◌<◌, ◌≤◌, length, vec_len, vec_capacity};
+ghost use Rattle.std.specs.Prelude.{◌≡◌, ◌+◌, ◌<◌, ◌≤◌, length, vec_len, vec_capacity};
 
 use crate::homes::Homes;
 use crate::lines::{Dictionary, LineState};

@@ -1,6 +1,5 @@
 // Looking names up, and adding lines.
-ghost use Rattle.std.specs.Prelude.{◌≡◌, ℕ, ◌<◌, ◌≤◌, Bool, length, IfSome, vec_len};
-ghost use Rattle.table.specs.Rows.{held, first_at, value_under, placed, added};
+ghost use Rattle.std.specs.Prelude.{◌≡◌, ◌<◌, IfSome};
 ghost use Rattle.link.specs.Lines.{same_line_name, lines, line_of, place_of};
 ghost use Rattle.link.specs.Keys;
 

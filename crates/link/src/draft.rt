@@ -1,5 +1,5 @@
 // Giving each item of a deck its line.
-ghost use Rattle.std.specs.Prelude.{◌≡◌, ℕ, ◌<◌, ◌≤◌, length, vec_items, vec_len};
+ghost use Rattle.std.specs.Prelude.{◌<◌, length};
 
 use crate::homes::Homes;
 use crate::lines::{Dictionary, Line, LineName, LineState};

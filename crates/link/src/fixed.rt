@@ -1,5 +1,5 @@
 // Fixing a link, and the program that it becomes.
-ghost use Rattle.std.specs.Prelude.{◌≡◌, ℕ, ◌+◌, ◌<◌, ◌≤◌};
+ghost use Rattle.std.specs.Prelude.{◌≡◌};
 
 use crate::fault::LinkFault;
 use crate::gathering::{Link, Progress, Start};

@@ -1,6 +1,4 @@
 // The link while it gathers decks.
-ghost use Rattle.std.specs.Prelude.{◌≡◌, ℕ, ◌+◌, ◌<◌, ◌≤◌, length};
-
 use crate::limits::Area;
 use crate::reserve::Room;
 use card::Name;

@@ -1,5 +1,5 @@
 // Taking decks: include, call, entry, scrap.
-ghost use Rattle.std.specs.Prelude.{◌≡◌, ℕ, ◌+◌, ◌<◌, ◌≤◌, false, map, length, is_ok};
+ghost use Rattle.std.specs.Prelude.{◌≡◌, ◌<◌, false, map, is_ok};
 ghost use Rattle.link.specs.Lines.{lines};
 ghost use Rattle.link.specs.Views.{room_view, empty_room, view_of, except_marks, unmarked, opened, entry_answer, chosen};
 

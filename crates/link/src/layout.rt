@@ -1,5 +1,5 @@
 // Where the sections of a deck go.
-ghost use Rattle.std.specs.Prelude.{◌≡◌, ℕ, ◌+◌, ◌<◌, ◌≤◌, length, vec_len, vec_capacity};
+ghost use Rattle.std.specs.Prelude.{◌≡◌, ◌≤◌, length};
 ghost use Rattle.link.specs.Layout.{fitted};
 
 use crate::homes::{Extent, Homes};

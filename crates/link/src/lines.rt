@@ -1,5 +1,5 @@
 // The lines of the dictionary.
-ghost use Rattle.std.specs.Prelude.{◌≡◌, ◌≤◌, vec_len};
+ghost use Rattle.std.specs.Prelude.{◌≡◌, vec_len};
 
 use card::{Name, Strength};
 use table::{Count, Row};

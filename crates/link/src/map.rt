@@ -1,5 +1,5 @@
 // The map of a fixed program.
-ghost use Rattle.std.specs.Prelude.{◌≡◌, ℕ, ◌+◌, ◌<◌, ◌≤◌, length, vec_len, vec_capacity};
+ghost use Rattle.std.specs.Prelude.{◌≤◌, length};
 
 use crate::layout::fit;
 use crate::lines::{Dictionary, Line, LineName, LineState};

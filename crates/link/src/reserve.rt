@@ -1,6 +1,4 @@
 // The memory of a link, reserved once.
-ghost use Rattle.std.specs.Prelude.{◌≡◌};
-
 use crate::homes::Homes;
 use crate::lines::Dictionary;
 use crate::maplines::MapLines;

@@ -1,5 +1,5 @@
 // What the link keeps of the decks that it has taken: their texts and constants at final addresses.
-ghost use Rattle.std.specs.Prelude.{◌≡◌, ℕ, ◌*◌, ◌≤◌, [], vec_len, vec_capacity};
+ghost use Rattle.std.specs.Prelude.{◌≡◌, ◌*◌, ◌≤◌, [], vec_len, vec_capacity};
 
 use card::{Sign, Width};
 use std::alloc::{AllocError, Global};

@@ -1,5 +1,5 @@
 // A library with a flawed card: 11.
-ghost use Rattle.std.specs.Prelude.{◌≡◌, ℕ, ◌≤◌, List, [], ◌∷◌, length, Some, None};
+ghost use Rattle.std.specs.Prelude.{◌≡◌, [], ◌∷◌, length, Some};
 ghost use Rattle.std.proofs.Common.{arith};
 ghost use Rattle.library.specs.Slots.{Card, Flaw};
 
