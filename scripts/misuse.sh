@@ -21,7 +21,7 @@ try() {
     expected=accepted
     if [ -n "$2" ]; then
         expected=refused
-        grep -q "error\[$2\]" said || answer="$answer, but not by $2"
+        if [ "$answer" = refused ] && ! grep -q "error\[$2\]" said; then answer="refused, but not by $2"; fi
     fi
     if [ "$answer" != "$expected" ]; then
         cat said
