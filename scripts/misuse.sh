@@ -6,7 +6,7 @@ here=$(cd "$(dirname "$0")/.." && pwd)
 copy=$(mktemp -d)
 trap 'rm -rf "$copy"' EXIT
 mkdir -p "$copy/crates/misuse/src"
-for crate in card table library deck link; do
+for crate in card table reserved library deck link; do
     mkdir "$copy/crates/$crate"
     cp -r "$here/crates/$crate/src" "$here/crates/$crate/specs" "$here/crates/$crate/proofs" "$copy/crates/$crate/"
     grep "^$crate:" "$here/crates.txt" >> "$copy/crates.txt"

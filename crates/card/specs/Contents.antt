@@ -1,12 +1,11 @@
 -- What a card says, and when it is refused.
 use Rattle.std.specs.Prelude.{ℕ, ◌/◌, ◌%◌, Bool, cond, not, ◌&&◌, List, [], ◌∷◌, take, Some, None, Ok, Err, Option, Result, ◌==◌, nat_le}
-use Rattle.card.specs.declared.content.CardKind.{CardKind}
-use Rattle.card.specs.declared.content.CardKind.TheVariants as kind
-use Rattle.card.specs.declared.content.EsdItem.{EsdItem}
-use Rattle.card.specs.declared.content.RldItem.{RldItem}
-use Rattle.card.specs.declared.content.EndEntry.{EndEntry}
+use Rattle.card.specs.declared.kind.CardKind.{CardKind}
+use Rattle.card.specs.declared.kind.CardKind.TheVariants as kind
+use Rattle.card.specs.declared.content.Item.{Item}
+use Rattle.card.specs.declared.content.Constant.{Constant}
+use Rattle.card.specs.declared.content.Entry.{Entry}
 use Rattle.card.specs.declared.content.RldCard.{RldCard}
-use Rattle.card.specs.declared.content.Expected.TheVariants.{Ids}
 use Rattle.card.specs.declared.content.Card.{Card}
 use Rattle.card.specs.declared.content.Card.TheVariants as card
 use Rattle.card.specs.declared.refusal.CardAt.{CardAt}
@@ -14,14 +13,14 @@ use Rattle.card.specs.declared.refusal.CardFault.{CardFault}
 use Rattle.card.specs.declared.refusal.CardFault.TheVariants.{UnknownKind, EndMisplaced, BadCount, BadItem, BadRelocation}
 use Rattle.card.specs.Numbers.{big}
 use Rattle.card.specs.Kinds.{kind_of}
-use Rattle.card.specs.Items.{byte_count, id_field, data_columns, esd_items, rld_items, end_entry, end_length}
+use Rattle.card.specs.Items.{byte_count, id_field, data_columns, data_words, esd_items, rld_items, end_entry, end_length}
 
 -- the content of a card
 pub data Content : Type 0 where
-  Esd : (first-id : ℕ) → List EsdItem → Content
+  Esd : (first-id : ℕ) → List (Item ℕ) → Content
   Txt : (section address : ℕ) → List ℕ → Content
-  Rld : List RldItem → Content
-  End : Option EndEntry → Option ℕ → Content
+  Rld : List (Constant ℕ) → Content
+  End : Option (Entry ℕ) → Option ℕ → Content
   Sym : Content
 
 -- a TXT card has 1 to 56 bytes
@@ -50,15 +49,15 @@ abbrev pub txt_says : List ℕ → CardAt → Result Content CardFault
 txt_says c at = cond (good_txt_count (byte_count c)) (Ok (Txt (id_field c) (big 3 c 5) (take (byte_count c) (data_columns c)))) (Err (BadCount at))
 
 abbrev pub rld_says : List ℕ → CardAt → Result Content CardFault
-rld_says c at = cond (good_rld_count (byte_count c)) (or_bad (BadRelocation at) Rld (rld_items (byte_count c / 4) c 16 Ids [])) (Err (BadCount at))
+rld_says c at = cond (good_rld_count (byte_count c)) (or_bad (BadRelocation at) Rld (rld_items (take (byte_count c / 4) (data_words c)) None [])) (Err (BadCount at))
 
 abbrev pub end_says : List ℕ → Result Content CardFault
 end_says c = Ok (End (end_entry c) (end_length c))
 
 -- an item, or the fault where it is bad
-abbrev pub or_item : CardAt → Option EsdItem → Result (Option EsdItem) CardFault
+abbrev pub or_item : CardAt → Option (Item ℕ) → Result (Item ℕ) CardFault
 or_item at None = Err (BadItem at)
-or_item at (Some x) = Ok (Some x)
+or_item at (Some x) = Ok x
 
 abbrev pub kind_says : CardKind → List ℕ → CardAt → Result Content CardFault
 kind_says kind.Esd c at = esd_says c at
@@ -97,7 +96,7 @@ saying (card.Rld r) = Rld (take r.count r.places)
 saying (card.End e) = End e.entry e.length
 saying card.Sym = Sym
 
-abbrev pub rld_held : Option RldCard → Option (List RldItem)
+abbrev pub rld_held : Option RldCard → Option (List (Constant ℕ))
 rld_held None = None
 rld_held (Some r) = Some (take r.count r.places)
 

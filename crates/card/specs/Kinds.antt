@@ -1,7 +1,7 @@
 -- The kinds of cards.
 use Rattle.std.specs.Prelude.{ℕ, Bool, cond, ◌&&◌, List, Some, None, Option, ◌==◌, slice_index}
-use Rattle.card.specs.declared.content.CardKind.{CardKind}
-use Rattle.card.specs.declared.content.CardKind.TheVariants.{Esd, Txt, Rld, End, Sym}
+use Rattle.card.specs.declared.kind.CardKind.{CardKind}
+use Rattle.card.specs.declared.kind.CardKind.TheVariants.{Esd, Txt, Rld, End, Sym}
 
 -- columns 2 to 4 hold these three bytes
 abbrev pub spells : List ℕ → ℕ → ℕ → ℕ → Bool

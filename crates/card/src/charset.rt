@@ -27,8 +27,7 @@ pub fn punched(character: u8) -> Option<u8>
     if character == b'.' {
         return None;
     }
-    for byte in 0..256u16 {
-        let byte = (byte % 256) as u8;
+    for byte in 0..=u8::MAX {
         if shown(byte) == character {
             return Some(byte);
         }

@@ -1,41 +1,29 @@
 // What cards hold, once read.
-ghost use Rattle.std.specs.Prelude.{◌≤◌};
+ghost use Rattle.std.specs.Prelude.{◌≡◌, ◌≤◌};
+ghost use Rattle.card.specs.Items.{wide, defines};
 
 use crate::name::Name;
 
-// The five kinds of cards.
-#[derive(Clone, Copy)]
-pub enum CardKind {
-    Esd,
-    Txt,
-    Rld,
-    End,
-    Sym,
-}
-
 // A strong reference (ER) has to be met before a program is fixed, a weak one (WX) need not be.
-#[derive(Clone, Copy)]
+#[derive(Clone, Copy, PartialEq, Eq, Debug)]
 pub enum Strength {
     Strong,
     Weak,
 }
 
-// An item of an ESD card. A private section (PC) has no name; a label (LD) names its section by ID.
+// An item: a section, a label, a reference or a common. A section without a name is private (PC). `S` tells which section a
+// label lies in: by its ID on a card, by its place among the items in a deck that was read.
 #[derive(Clone, Copy)]
-pub enum EsdItem {
+pub enum Item<S> {
     Section {
-        name: Name,
-        address: u32,
-        length: u32,
-    },
-    Private {
+        name: Option<Name>,
         address: u32,
         length: u32,
     },
     Label {
         name: Name,
         address: u32,
-        section: u32,
+        section: S,
     },
     Reference {
         name: Name,
@@ -47,79 +35,106 @@ pub enum EsdItem {
     },
 }
 
+impl<S: Copy> Item<S> {
+    // The name that an item defines: a section's, a label's or a common's.
+    pub fn defines(self) -> Option<Name>
+        ensures { result ≡ defines self }
+    {
+        match self {
+            Item::Section { name, .. } => name,
+            Item::Label { name, .. } | Item::Common { name, .. } => Some(name),
+            Item::Reference { .. } => None,
+        }
+    }
+}
+
 // An ESD card: the ID of its first item that is no label, and one to three items.
 #[derive(Clone, Copy)]
 pub struct EsdCard {
     pub first_id: u16,
-    pub items: [Option<EsdItem>; 3],
+    pub items: [Option<Item<u32>>; 3],
 }
 
-// A TXT card: `count` bytes of a section from an input address on.
+// Text: the first `count` of the bytes, from an input address of a section on. On a card the section stands by its ID.
+// Bytes with a count beside them are kept: texts are copied as plain data into reserved memory, and a vector of fixed capacity is
+// no such data (its clone can fail).
 #[derive(Clone, Copy)]
-pub struct TxtCard {
-    pub section: u16,
+pub struct Text<S> {
+    pub section: S,
     pub address: u32,
     pub count: u16,
     pub bytes: [u8; 56],
 }
 
 // The width of an address constant in bytes.
-#[derive(Clone, Copy)]
+#[derive(Clone, Copy, PartialEq, Eq, Debug)]
 pub enum Width {
     Three,
     Four,
 }
 
+impl From<Width> for u32 {
+    ghost from_gives = { λ width n. n ≡ wide width };
+
+    fn from(width: Width) -> u32 {
+        match width {
+            Width::Three => 3,
+            Width::Four => 4,
+        }
+    }
+}
+
 // Whether relocation adds the shift or subtracts it.
-#[derive(Clone, Copy)]
+#[derive(Clone, Copy, PartialEq, Eq, Debug)]
 pub enum Sign {
     Plus,
     Minus,
 }
 
-// An item of an RLD card: the constant at an input address of section P moves with item R.
+// A relocation item: the constant at an input address of a section (P) moves with an item (R). On a card both stand by their IDs.
 #[derive(Clone, Copy)]
-pub struct RldItem {
-    pub r: u16,
-    pub p: u16,
+pub struct Constant<S> {
+    pub target: S,
+    pub section: S,
+    pub address: u32,
     pub width: Width,
     pub sign: Sign,
-    pub address: u32,
 }
 
-// What the next four bytes of an RLD card hold: R and P, or the flag and address of a constant for an R and P read before.
+// The IDs R and P that were read, and stand for the constants behind them.
 #[derive(Clone, Copy)]
-pub(crate) enum Expected {
-    Ids,
-    Constant { r: u16, p: u16 },
+pub(crate) struct Pointers {
+    pub(crate) r: u16,
+    pub(crate) p: u16,
 }
 
-// An RLD card: the first `count` of the places hold its items.
+// An RLD card: the first `count` of the places hold its items. Kept for the reason given at `Text`; besides, the unused places of
+// such a vector ask for a default, which a constant has not.
 #[derive(Clone, Copy)]
 pub struct RldCard {
     pub(crate) count: usize,
-    pub(crate) places: [RldItem; 14],
+    pub(crate) places: [Constant<u16>; 14],
     ghost few: { count ≤ 14 },
 }
 
-// The entry point that an END card gives: an input address under an ID, or a name.
+// An entry point: an input address of a section, or a name. On a card the section stands by its ID.
 #[derive(Clone, Copy)]
-pub enum EndEntry {
-    Address { id: u16, address: u32 },
+pub enum Entry<S> {
+    Address { section: S, address: u32 },
     Named(Name),
 }
 
 // An END card: its entry point, and the length of the one section of ESD length zero.
 #[derive(Clone, Copy)]
 pub struct EndCard {
-    pub entry: Option<EndEntry>,
+    pub entry: Option<Entry<u16>>,
     pub length: Option<u32>,
 }
 
 #[derive(Clone, Copy)]
 pub enum Card {
     Esd(EsdCard),
-    Txt(TxtCard),
+    Txt(Text<u16>),
     Rld(RldCard),
     End(EndCard),
     Sym,

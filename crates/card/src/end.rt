@@ -3,7 +3,7 @@ ghost use Rattle.std.specs.Prelude.{◌≡◌};
 ghost use Rattle.card.specs.Items.{end_entry, end_length, end_address, no_id};
 ghost use Rattle.card.specs.Contents.{end_says, says};
 
-use crate::content::{Card, EndCard, EndEntry};
+use crate::content::{Card, EndCard, Entry};
 use crate::fields::{half, name_at, third, word};
 use crate::refusal::CardFault;
 
@@ -24,13 +24,13 @@ fn end_address(card: &[u8; 80]) -> u32
     }
 }
 
-fn end_entry(card: &[u8; 80]) -> Option<EndEntry>
+fn end_entry(card: &[u8; 80]) -> Option<Entry<u16>>
     ensures { result ≡ end_entry card.now }
 {
     let id = half(card, 14);
     if !no_id(id) {
-        return Some(EndEntry::Address {
-            id,
+        return Some(Entry::Address {
+            section: id,
             address: end_address(card),
         });
     }
@@ -38,7 +38,7 @@ fn end_entry(card: &[u8; 80]) -> Option<EndEntry>
     if name.is_blank() {
         None
     } else {
-        Some(EndEntry::Named(name))
+        Some(Entry::Named(name))
     }
 }
 

@@ -1,40 +1,43 @@
 // ESD cards: sections, labels, references and commons.
 ghost use Rattle.std.specs.Prelude.{◌≡◌, ◌+◌, ◌≤◌};
+ghost use Rattle.card.specs.declared.content.Item.TheVariants.{Section};
 ghost use Rattle.card.specs.Items.{esd_item, typed_item, unless_blank};
 ghost use Rattle.card.specs.Contents.{esd_says, says, or_item};
 
-use crate::content::{Card, EsdCard, EsdItem, Strength};
+use crate::content::{Card, EsdCard, Item, Strength};
 use crate::fields::{half, name_at, third};
 use crate::name::Name;
 use crate::refusal::{CardAt, CardFault};
 
 // A label or a reference must have a name.
-fn unless_blank(name: Name, item: EsdItem) -> Option<EsdItem>
+fn unless_blank(name: Name, item: Item<u32>) -> Option<Item<u32>>
     ensures { result ≡ unless_blank name item }
 {
     if name.is_blank() { None } else { Some(item) }
 }
 
-// The item that a type and the other fields make; none where they break the rule of items.
-fn typed_item(kind: u8, name: Name, address: u32, length: u32) -> Option<EsdItem>
+fn section(name: Option<Name>, address: u32, length: u32) -> Item<u32>
+    ensures { result ≡ Section name address length }
+{
+    Item::Section {
+        name,
+        address,
+        length,
+    }
+}
+
+// The item that a type and the other fields make; none where they break the rule of items. The type is a number since it is
+// punched so; the item is what it comes to.
+fn typed_item(kind: u8, name: Name, address: u32, length: u32) -> Option<Item<u32>>
     ensures { result ≡ typed_item kind name address length }
 {
     match kind {
-        0x00 => {
-            if name.is_blank() {
-                Some(EsdItem::Private { address, length })
-            } else {
-                Some(EsdItem::Section {
-                    name,
-                    address,
-                    length,
-                })
-            }
-        }
-        0x04 => Some(EsdItem::Private { address, length }),
+        0x00 if name.is_blank() => Some(section(None, address, length)),
+        0x00 => Some(section(Some(name), address, length)),
+        0x04 => Some(section(None, address, length)),
         0x01 => unless_blank(
             name,
-            EsdItem::Label {
+            Item::Label {
                 name,
                 address,
                 section: length,
@@ -42,25 +45,26 @@ fn typed_item(kind: u8, name: Name, address: u32, length: u32) -> Option<EsdItem
         ),
         0x02 => unless_blank(
             name,
-            EsdItem::Reference {
+            Item::Reference {
                 name,
                 strength: Strength::Strong,
             },
         ),
         0x0A => unless_blank(
             name,
-            EsdItem::Reference {
+            Item::Reference {
                 name,
                 strength: Strength::Weak,
             },
         ),
-        0x05 => Some(EsdItem::Common { name, length }),
+        0x05 => Some(Item::Common { name, length }),
         _ => None,
     }
 }
 
 // The item in the sixteen bytes from a place on.
-fn esd_item(card: &[u8; 80], at: usize) -> Option<EsdItem>
+#[tactic(auto, unfolding(crate::specs::Items::esd_item))]
+fn esd_item(card: &[u8; 80], at: usize) -> Option<Item<u32>>
     requires { at + 16 ≤ 80 }
     ensures { result ≡ esd_item card.now at }
 {
@@ -73,14 +77,11 @@ fn esd_item(card: &[u8; 80], at: usize) -> Option<EsdItem>
 }
 
 // The same, with the fault of a bad item.
-fn good_item(card: &[u8; 80], at: usize, place: CardAt) -> Result<Option<EsdItem>, CardFault>
+fn good_item(card: &[u8; 80], at: usize, place: CardAt) -> Result<Item<u32>, CardFault>
     requires { at + 16 ≤ 80 }
     ensures { result ≡ or_item place (esd_item card.now at) }
 {
-    match esd_item(card, at) {
-        Some(item) => Ok(Some(item)),
-        None => Err(CardFault::BadItem(place)),
-    }
+    esd_item(card, at).ok_or(CardFault::BadItem(place))
 }
 
 // What an ESD card says.
@@ -89,16 +90,16 @@ pub(crate) fn esd_card(card: &[u8; 80], place: CardAt) -> Result<Card, CardFault
 {
     let first_id = half(card, 14);
     let items = match half(card, 10) {
-        16 => [good_item(card, 16, place)?, None, None],
+        16 => [Some(good_item(card, 16, place)?), None, None],
         32 => [
-            good_item(card, 16, place)?,
-            good_item(card, 32, place)?,
+            Some(good_item(card, 16, place)?),
+            Some(good_item(card, 32, place)?),
             None,
         ],
         48 => [
-            good_item(card, 16, place)?,
-            good_item(card, 32, place)?,
-            good_item(card, 48, place)?,
+            Some(good_item(card, 16, place)?),
+            Some(good_item(card, 32, place)?),
+            Some(good_item(card, 48, place)?),
         ],
         _ => return Err(CardFault::BadCount(place)),
     };

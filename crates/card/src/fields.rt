@@ -1,4 +1,5 @@
-// The fields of a card: numbers with the high byte first, and names.
+// The fields of a card: numbers with the high byte first, and names. The numbers have three functions and not one for any number
+// of bytes: each is one call of `from_be_bytes` at its own type, and IDs stay u16.
 ghost use Rattle.std.specs.Prelude.{◌≡◌, ◌+◌, ◌<◌, ◌≤◌};
 ghost use Rattle.card.specs.Numbers.{big};
 ghost use Rattle.card.specs.Names.{name_at};

@@ -6,6 +6,7 @@ mod content;
 mod end;
 mod esd;
 mod fields;
+mod kind;
 mod name;
 mod reading;
 mod refusal;
@@ -14,8 +15,9 @@ mod txt;
 
 pub use charset::{punched, shown};
 pub use content::{
-    Card, EndCard, EndEntry, EsdCard, EsdItem, RldCard, RldItem, Sign, Strength, TxtCard, Width,
+    Card, Constant, EndCard, Entry, EsdCard, Item, RldCard, Sign, Strength, Text, Width,
 };
+pub use kind::CardKind;
 pub use name::Name;
 pub use reading::parse;
 pub use refusal::{CardAt, CardFault, Layer, Refusal};

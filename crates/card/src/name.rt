@@ -1,12 +1,9 @@
 // Names of decks, sections, labels, references and commons.
 ghost use Rattle.std.specs.Prelude.{◌≡◌};
-ghost use Rattle.card.specs.Names.{is_blank, number_of, same_name, blank_name};
-ghost use Rattle.std.specs.Cmp.Rules.{comparing};
-ghost use Rattle.std.proofs.Common.{rules};
-ghost use Rattle.std.specs.Cmp as Keys;
+ghost use Rattle.card.specs.Names.{is_blank, number_of, blank_name};
 
 // Any eight bytes, as they are punched.
-#[derive(Clone, Copy)]
+#[derive(Clone, Copy, PartialEq, Eq, Debug)]
 pub struct Name {
     pub bytes: [u8; 8],
 }
@@ -27,7 +24,7 @@ impl Name {
         self == Name::blank()
     }
 
-    // The name as one number, its first byte highest.
+    // The name as one number, its first byte highest. A method and no `From`, as the order of the bytes is what it decides.
     pub fn number(self) -> u64
         ensures { result ≡ number_of self }
     {
@@ -35,17 +32,10 @@ impl Name {
     }
 }
 
-// Two names are equal where their bytes are.
-impl PartialEq for Name {
-    ghost eq = { λ a b. same_name a b };
+impl Default for Name {
+    ghost is_default = { λ name. name ≡ blank_name };
 
-    ghost laws = { Keys.partial_equiv_from_equiv (Prim.search (comparing, rules)) };
-
-    fn eq(&self, other: &Name) -> bool {
-        self.bytes == other.bytes
+    fn default() -> Name {
+        Name::blank()
     }
-}
-
-impl Eq for Name {
-    ghost laws = { Prim.search (comparing, rules) };
 }

@@ -3,9 +3,10 @@ ghost use Rattle.std.specs.Prelude.{◌≡◌};
 ghost use Rattle.card.specs.Kinds.{kind_of};
 ghost use Rattle.card.specs.Contents.{card_says, kind_says, misplaced, says};
 
-use crate::content::{Card, CardKind};
+use crate::content::Card;
 use crate::end::end_card;
 use crate::esd::esd_card;
+use crate::kind::CardKind;
 use crate::refusal::{CardAt, CardFault};
 use crate::rld::rld_card;
 use crate::txt::txt_card;
@@ -17,14 +18,7 @@ fn kind_of(card: &[u8; 80]) -> Option<CardKind>
     if card[0] != 0x02 {
         return None;
     }
-    match [card[1], card[2], card[3]] {
-        [0xC5, 0xE2, 0xC4] => Some(CardKind::Esd),
-        [0xE3, 0xE7, 0xE3] => Some(CardKind::Txt),
-        [0xD9, 0xD3, 0xC4] => Some(CardKind::Rld),
-        [0xC5, 0xD5, 0xC4] => Some(CardKind::End),
-        [0xE2, 0xE8, 0xD4] => Some(CardKind::Sym),
-        _ => None,
-    }
+    CardKind::of(card)
 }
 
 // END is the last card of a deck, and no other is.

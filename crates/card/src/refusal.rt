@@ -1,6 +1,8 @@
 // What a refusal tells, and the refusals of a single card.
 ghost use Rattle.std.specs.Prelude.{◌≡◌};
-ghost use Rattle.card.specs.Told.{told_card, broken_at};
+ghost use Rattle.card.specs.Told.{told_card, broken_at, of_deck, without_deck};
+
+use crate::name::Name;
 
 // The part of the product that a rule belongs to.
 #[derive(Clone, Copy, PartialEq, Eq, Debug)]
@@ -13,7 +15,8 @@ pub enum Layer {
 }
 
 // Every refusal, whatever broke: the rule's number, the deck's name as a number, the card at fault
-// (0 where no card is), the layer, and the mark of a flawed card.
+// (0 where no card is), the layer, and the mark of a flawed card. The number is kept as a number: it is what is told and printed,
+// and no code for a fault, which are enums.
 #[derive(Clone, Copy, PartialEq, Eq, Debug)]
 pub struct Refusal {
     pub number: u8,
@@ -23,8 +26,24 @@ pub struct Refusal {
     pub mark: Option<u8>,
 }
 
+impl Refusal {
+    // The rule of that number, of a layer, broken by a deck as a whole.
+    pub fn of_deck(layer: Layer, number: u8, deck: u64) -> Refusal
+        ensures { result ≡ of_deck layer number deck }
+    {
+        CardAt { deck, card: 0 }.refused(layer, number)
+    }
+
+    // The rule of that number, of a layer, broken where there is no deck to name: the blank name stands for it.
+    pub fn without_deck(layer: Layer, number: u8) -> Refusal
+        ensures { result ≡ without_deck layer number }
+    {
+        Refusal::of_deck(layer, number, Name::blank().number())
+    }
+}
+
 // Where a card stands: its deck's name as a number, and its place in the deck, from 1.
-#[derive(Clone, Copy)]
+#[derive(Clone, Copy, PartialEq, Eq, Debug)]
 pub struct CardAt {
     pub deck: u64,
     pub card: u16,
@@ -46,7 +65,7 @@ impl CardAt {
 }
 
 // What can be wrong with one card.
-#[derive(Clone, Copy)]
+#[derive(Clone, Copy, PartialEq, Eq, Debug)]
 pub enum CardFault {
     UnknownKind(CardAt),
     EndMisplaced(CardAt),
@@ -56,11 +75,11 @@ pub enum CardFault {
     BadRelocation(CardAt),
 }
 
-impl CardFault {
-    pub fn refusal(self) -> Refusal
-        ensures { result ≡ told_card self }
-    {
-        match self {
+impl From<CardFault> for Refusal {
+    ghost from_gives = { λ fault told. told ≡ told_card fault };
+
+    fn from(fault: CardFault) -> Refusal {
+        match fault {
             CardFault::UnknownKind(at) => at.refused(Layer::Card, 12),
             CardFault::EndMisplaced(at) => at.refused(Layer::Card, 13),
             CardFault::BadCount(at) => at.refused(Layer::Card, 14),

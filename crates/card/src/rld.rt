@@ -1,21 +1,30 @@
 // RLD cards: the address constants of a deck.
-ghost use Rattle.std.specs.Prelude.{◌≡◌, ◌+◌, ◌≤◌, [], length, take};
-ghost use Rattle.card.specs.declared.content.Expected.TheVariants.{Ids};
-ghost use Rattle.card.specs.Items.{good_width, flag_sign, after_flag, constant_at, rld_items};
+ghost use Rattle.std.specs.Prelude.{◌≡◌, ◌≤◌, [], length, take, None};
+ghost use Rattle.card.specs.Items.{data_words, good_width, flag_sign, after_flag, pointers_in, constant_in, rld_items};
 ghost use Rattle.card.specs.Contents.{rld_says, says, good_rld_count, rld_held};
 
-use crate::content::{Card, Expected, RldCard, RldItem, Sign, Width};
-use crate::fields::{half, third};
+use crate::content::{Card, Constant, Pointers, RldCard, Sign, Width};
+use crate::fields::half;
 use crate::refusal::{CardAt, CardFault};
 
 impl RldCard {
     // The card's items in order.
-    pub fn items(&self) -> &[RldItem]
+    pub fn items(&self) -> &[Constant<u16>]
         ensures value { result.now ≡ take self.now.count self.now.places }
         ensures few { length result.now ≤ 14 }
     {
         &self.places[0..self.count]
     }
+}
+
+// Columns 17 to 72 as words of four bytes.
+#[tactic(auto, unfolding(crate::specs::Items::data_words))]
+fn data_words(card: &[u8; 80]) -> &[[u8; 4]]
+    ensures value { result.now ≡ data_words card.now }
+    ensures len { length result.now ≡ 14 }
+{
+    let (words, _) = card[16..72].as_chunks();
+    words
 }
 
 // The width that a flag gives; none for another type or width.
@@ -42,64 +51,67 @@ fn flag_sign(flag: u8) -> Sign
     }
 }
 
-// What follows a constant: the next one for the same R and P where the flag says so.
-fn after_flag(flag: u8, r: u16, p: u16) -> Expected
-    ensures { result ≡ after_flag flag r p }
+// The R and P of the next constant: the same again where the flag says so.
+fn after_flag(flag: u8, ids: Pointers) -> Option<Pointers>
+    ensures { result ≡ after_flag flag ids }
 {
-    if flag % 2 == 1 {
-        Expected::Constant { r, p }
-    } else {
-        Expected::Ids
+    if flag % 2 == 1 { Some(ids) } else { None }
+}
+
+// R and P in a word.
+fn pointers_in(word: [u8; 4]) -> Pointers
+    ensures { result ≡ pointers_in word }
+{
+    let [a, b, c, d] = word;
+    Pointers {
+        r: u16::from_be_bytes([a, b]),
+        p: u16::from_be_bytes([c, d]),
     }
 }
 
-// The constant whose flag and address stand in the four bytes from a place on.
-fn constant_at(card: &[u8; 80], at: usize, r: u16, p: u16, width: Width) -> RldItem
-    requires { at + 4 ≤ 80 }
-    ensures { result ≡ constant_at card.now at r p width }
+// The constant of R and P whose flag and address a word holds.
+fn constant_in(word: [u8; 4], ids: Pointers, width: Width) -> Constant<u16>
+    ensures { result ≡ constant_in word ids width }
 {
-    RldItem {
-        r,
-        p,
+    let [flag, a, b, c] = word;
+    Constant {
+        target: ids.r,
+        section: ids.p,
         width,
-        sign: flag_sign(card[at]),
-        address: third(card, at + 1),
+        sign: flag_sign(flag),
+        address: u32::from_be_bytes([0, a, b, c]),
     }
 }
 
-// The items in so many words of four bytes; none where one breaks the rule of relocation items.
-fn rld_items(card: &[u8; 80], words: usize) -> Option<RldCard>
-    requires { words ≤ 14 }
-    ensures { rld_held result ≡ rld_items words card.now 16 Ids [] }
+// The items in words of four bytes; none where one breaks the rule of relocation items.
+fn rld_items(words: &[[u8; 4]]) -> Option<RldCard>
+    requires { length words.now ≤ 14 }
+    ensures { rld_held result ≡ rld_items words.now None [] }
 {
-    let unused = RldItem {
-        r: 0,
-        p: 0,
+    let unused = Constant {
+        target: 0,
+        section: 0,
         width: Width::Three,
         sign: Sign::Plus,
         address: 0,
     };
     let mut places = [unused; 14];
     let mut count = 0;
-    let mut expected = Expected::Ids;
-    for k in 0..words {
-        let at = 16 + 4 * k;
-        match expected {
-            Expected::Ids => expected = Expected::Constant {
-                r: half(card, at),
-                p: half(card, at + 2),
-            },
-            Expected::Constant { r, p } => {
-                let width = good_width(card[at])?;
-                places[count] = constant_at(card, at, r, p, width);
+    let mut pointers = None;
+    for word in words {
+        match pointers {
+            None => pointers = Some(pointers_in(*word)),
+            Some(ids) => {
+                let width = good_width(word[0])?;
+                places[count] = constant_in(*word, ids, width);
                 count += 1;
-                expected = after_flag(card[at], r, p);
+                pointers = after_flag(word[0], ids);
             }
         }
     }
-    match expected {
-        Expected::Ids => Some(RldCard { count, places }),
-        Expected::Constant { .. } => None,
+    match pointers {
+        None => Some(RldCard { count, places }),
+        Some(_) => None,
     }
 }
 
@@ -117,8 +129,7 @@ pub(crate) fn rld_card(card: &[u8; 80], place: CardAt) -> Result<Card, CardFault
     if !good_count(count) {
         return Err(CardFault::BadCount(place));
     }
-    match rld_items(card, (count / 4) as usize) {
-        Some(items) => Ok(Card::Rld(items)),
-        None => Err(CardFault::BadRelocation(place)),
-    }
+    let words = &data_words(card)[..(count / 4) as usize];
+    let items = rld_items(words).ok_or(CardFault::BadRelocation(place))?;
+    Ok(Card::Rld(items))
 }

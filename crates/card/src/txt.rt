@@ -2,7 +2,7 @@
 ghost use Rattle.std.specs.Prelude.{◌≡◌};
 ghost use Rattle.card.specs.Contents.{txt_says, says, good_txt_count};
 
-use crate::content::{Card, TxtCard};
+use crate::content::{Card, Text};
 use crate::fields::{half, third};
 use crate::refusal::{CardAt, CardFault};
 
@@ -22,7 +22,7 @@ pub(crate) fn txt_card(card: &[u8; 80], place: CardAt) -> Result<Card, CardFault
     }
     let mut bytes = [0; 56];
     bytes.copy_from_slice(&card[16..72]);
-    Ok(Card::Txt(TxtCard {
+    Ok(Card::Txt(Text {
         section: half(card, 14),
         address: third(card, 5),
         count,

@@ -1,7 +1,7 @@
 -- The table of punches is the inverse of how bytes print: two tests, each computed at 256 numbers.
 use Rattle.std.proofs.Common.{◌≡◌, ℕ, ◌<◌, Bool, true, false, not, ◌&&◌, ◌||◌, T, eqb, ltb, replicate, Some, None, Option, sym, refl, ap, subst, eqb→eq, ltb→lt, rules, MatchOption}
 use Rattle.card.specs.Shown.{shown, Unprintable, Prints}
-use Rattle.card.proofs.Table.{entry}
+use Rattle.card.proofs.Table.{left, right, entry}
 use Rattle.console.specs.Typed.{punch_of}
 
 abbrev is : Option ℕ → ℕ → Bool
@@ -28,24 +28,16 @@ is_some : (o : Option ℕ) (b : ℕ) → T (is o b) → Some b ≡ o
 is_some None b t = absurd t
 is_some (Some x) b t = ap Some (sym (eqb→eq x b t))
 
-first : (a b : Bool) → T (a && b) → T a
-first true b t = tt
-first false b t = t
-
-rest : (a b : Bool) → T (a && b) → T b
-rest true b t = t
-rest false b t = absurd t
-
 differs : (m n : ℕ) → T (not (eqb m n)) → m ≡ n → ⊥
 differs m n t e = search rules
 
 pub printing : (b c : ℕ) → T (prints (Some b) c) → Prints b c
 printing b c t =
-    let u = rest (ltb b 256) (eqb (shown b) c && not (eqb c 46)) t in
+    let u = right (ltb b 256) (eqb (shown b) c && not (eqb c 46)) t in
     record {
-      is_byte = ltb→lt b 256 (first (ltb b 256) (eqb (shown b) c && not (eqb c 46)) t);
-      prints = eqb→eq (shown b) c (first (eqb (shown b) c) (not (eqb c 46)) u);
-      no_stop = differs c 46 (rest (eqb (shown b) c) (not (eqb c 46)) u);
+      is_byte = ltb→lt b 256 (left (ltb b 256) (eqb (shown b) c && not (eqb c 46)) t);
+      prints = eqb→eq (shown b) c (left (eqb (shown b) c) (not (eqb c 46)) u);
+      no_stop = differs c 46 (right (eqb (shown b) c) (not (eqb c 46)) u);
     }
 
 is_none : (o : Option ℕ) (c : ℕ) → T (prints o c) → Unprintable c → None ≡ o

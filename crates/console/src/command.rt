@@ -5,7 +5,7 @@ ghost use Rattle.console.specs.Typed.{punch_of, name_of, name_after, alone, lett
 
 use card::Name;
 
-#[derive(Clone, Copy)]
+#[derive(Clone, Copy, PartialEq, Eq, Debug)]
 pub enum Command {
     Include(Name),
     Entry(Name),
@@ -31,11 +31,8 @@ fn name_of(characters: &[u8]) -> Option<Name>
         return None;
     }
     let mut bytes = Name::blank().bytes;
-    for i in 0..characters.len() {
-        let Some(byte) = punch_of(characters[i]) else {
-            return None;
-        };
-        bytes[i] = byte;
+    for (i, character) in characters.iter().enumerate() {
+        bytes[i] = punch_of(*character)?;
     }
     Some(Name { bytes })
 }
@@ -54,7 +51,7 @@ fn name_after(rest: &[u8]) -> Option<Name>
 fn alone(command: Command, rest: &[u8]) -> Option<Command>
     ensures { result ≡ alone command rest.now }
 {
-    if rest.is_empty() { Some(command) } else { None }
+    rest.is_empty().then_some(command)
 }
 
 fn letter_command(letter: char, rest: &[u8]) -> Option<Command>

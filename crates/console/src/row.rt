@@ -1,4 +1,5 @@
-// The lines that are printed, as ASCII characters.
+// The lines that are printed, as ASCII characters. Not as `Display`: that writes text piece by piece, so each byte of a name would
+// become a char and its UTF-8 be proved, where here one array has every byte.
 ghost use Rattle.std.specs.Prelude.{◌≡◌, codes};
 ghost use Rattle.console.specs.Text.{name_text, kind_text, hex_digit, hex_text, row_text, entry_text, refused_text};
 

@@ -1,113 +1,75 @@
 // Texts, constants, labels and the entry lie in their sections.
 ghost use Rattle.std.specs.Prelude.{◌≡◌};
-ghost use Rattle.deck.specs.Bounds.{leaves, leaves_item, out_item, out_text, out_constant, width_of};
+ghost use Rattle.deck.specs.Bounds.{leaves, leaves_item, out_item, out_text, out_constant};
 
-use crate::content::{Constant, Deck, Entry, Item, ItemKind, Text};
-use crate::rules::{Carded, Rule, lower, worst};
-use card::Width;
-
-impl Carded for Item {
-    ghost card = { λ x. x.card };
-
-    fn card(&self) -> u16 {
-        self.card
-    }
-}
-
-impl Carded for Text {
-    ghost card = { λ x. x.card };
-
-    fn card(&self) -> u16 {
-        self.card
-    }
-}
-
-impl Carded for Constant {
-    ghost card = { λ x. x.card };
-
-    fn card(&self) -> u16 {
-        self.card
-    }
-}
-
-// The number of bytes of a constant.
-pub fn width_of(width: Width) -> u32
-    ensures { result ≡ width_of width }
-{
-    match width {
-        Width::Three => 3,
-        Width::Four => 4,
-    }
-}
+use crate::content::Deck;
+use crate::rules::{OnCard, Rule, lower, worst};
+use card::{Constant, Entry, Item, Text};
 
 // Whether `size` bytes from an input address on begin before an item's start or end past its end; only sections have bytes.
-fn leaves_item(kind: ItemKind, address: u32, size: u32) -> bool
-    ensures { result ≡ leaves_item kind address size }
+fn leaves_item(item: Item<usize>, address: u32, size: u32) -> bool
+    ensures { result ≡ leaves_item item address size }
 {
-    match kind {
-        ItemKind::Section {
+    match item {
+        Item::Section {
             name: _,
             address: start,
             length,
         } => { address < start || address as u64 + size as u64 > start as u64 + length as u64 }
-        ItemKind::Label { .. } | ItemKind::Reference { .. } | ItemKind::Common { .. } => true,
+        Item::Label { .. } | Item::Reference { .. } | Item::Common { .. } => true,
     }
 }
 
 // Whether they leave the section at a place among the items.
-fn leaves(items: &[Item], section: usize, address: u32, size: u32) -> bool
+fn leaves(items: &[OnCard<Item<usize>>], section: usize, address: u32, size: u32) -> bool
     ensures { result ≡ leaves items.now section address size }
 {
-    if section >= items.len() {
-        return true;
+    match items.get(section) {
+        Some(item) => leaves_item(item.what, address, size),
+        None => true,
     }
-    leaves_item(items[section].kind, address, size)
 }
 
 // What is punched stays in the sections among these items.
 #[derive(Clone, Copy)]
 struct Within<'a> {
-    items: &'a [Item],
+    items: &'a [OnCard<Item<usize>>],
 }
 
 // A label lies in its section, or exactly at its end.
-impl Rule<Item> for Within<'_> {
+impl Rule<Item<usize>> for Within<'_> {
     ghost breaks = { λ s. out_item s.items.now };
 
-    fn breaks(&self, x: &Item) -> bool {
-        let items = self.items;
-        match x.kind {
-            ItemKind::Label {
+    fn breaks(&self, x: &Item<usize>) -> bool {
+        match *x {
+            Item::Label {
                 name: _,
                 address,
                 section,
-            } => leaves(items, section, address, 0),
-            ItemKind::Section { .. } | ItemKind::Reference { .. } | ItemKind::Common { .. } =>
-                false,
+            } => leaves(self.items, section, address, 0),
+            Item::Section { .. } | Item::Reference { .. } | Item::Common { .. } => false,
         }
     }
 }
 
-impl Rule<Text> for Within<'_> {
+impl Rule<Text<usize>> for Within<'_> {
     ghost breaks = { λ s. out_text s.items.now };
 
-    fn breaks(&self, x: &Text) -> bool {
-        let items = self.items;
-        leaves(items, x.section, x.address, x.count as u32)
+    fn breaks(&self, x: &Text<usize>) -> bool {
+        leaves(self.items, x.section, x.address, u32::from(x.count))
     }
 }
 
-impl Rule<Constant> for Within<'_> {
+impl Rule<Constant<usize>> for Within<'_> {
     ghost breaks = { λ s. out_constant s.items.now };
 
-    fn breaks(&self, x: &Constant) -> bool {
-        let items = self.items;
-        leaves(items, x.section, x.address, width_of(x.width))
+    fn breaks(&self, x: &Constant<usize>) -> bool {
+        leaves(self.items, x.section, x.address, u32::from(x.width))
     }
 }
 
 // Whether END's entry lies before its section's start or past its end.
-fn is_stray(items: &[Item], entry: Option<Entry>) -> bool {
+fn is_stray(items: &[OnCard<Item<usize>>], entry: Option<Entry<usize>>) -> bool {
     match entry {
         Some(Entry::Address { section, address }) => leaves(items, section, address, 0),
         Some(Entry::Named(_)) | None => false,
@@ -117,11 +79,11 @@ fn is_stray(items: &[Item], entry: Option<Entry>) -> bool {
 impl Deck {
     // The smallest card of what lies outside its section; END is card `last`.
     pub(crate) fn outside(&self, last: u16) -> Option<u16> {
-        let items = self.items.as_slice();
+        let items = self.items();
         let within = Within { items };
         let labels = worst(&within, items, None);
-        let texts = worst(&within, self.texts.as_slice(), labels);
-        let constants = worst(&within, self.constants.as_slice(), texts);
+        let texts = worst(&within, self.texts(), labels);
+        let constants = worst(&within, self.constants(), texts);
         if is_stray(items, self.entry) {
             return lower(constants, last);
         }

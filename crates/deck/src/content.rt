@@ -1,114 +1,57 @@
 // A deck that was read and judged: what the link takes.
-ghost use Rattle.std.specs.Prelude.{◌≡◌, ◌≤◌, length, vec_len, vec_capacity};
+ghost use Rattle.std.specs.Prelude.{◌≡◌, ◌≤◌, length};
 
-use card::{Name, Sign, Strength, Width};
+use crate::punched::{MAX_CONSTANTS, MAX_ITEMS, MAX_TEXTS};
+use crate::rules::OnCard;
+use card::{Constant, Entry, Item, Text};
+use reserved::Reserved;
 use std::alloc::{AllocError, Global};
 
-// What an item is. A section without a name is private. A label's section is its place among the items.
-#[derive(Clone, Copy)]
-pub enum ItemKind {
-    Section {
-        name: Option<Name>,
-        address: u32,
-        length: u32,
-    },
-    Label {
-        name: Name,
-        address: u32,
-        section: usize,
-    },
-    Reference {
-        name: Name,
-        strength: Strength,
-    },
-    Common {
-        name: Name,
-        length: u32,
-    },
-}
-
-// An item, and the card that it is punched on. Addresses are input addresses.
-#[derive(Clone, Copy)]
-pub struct Item {
-    pub card: u16,
-    pub kind: ItemKind,
-}
-
-// The first `count` of the bytes, from an input address of a section on.
-#[derive(Clone, Copy)]
-pub struct Text {
-    pub card: u16,
-    pub section: usize,
-    pub address: u32,
-    pub count: u16,
-    pub bytes: [u8; 56],
-}
-
-// A relocation item: the constant at an input address of a section moves with the item `target`.
-#[derive(Clone, Copy)]
-pub struct Constant {
-    pub card: u16,
-    pub target: usize,
-    pub section: usize,
-    pub address: u32,
-    pub width: Width,
-    pub sign: Sign,
-}
-
-// The entry point that a deck gives: an input address of a section, or a name.
-#[derive(Clone, Copy)]
-pub enum Entry {
-    Address { section: usize, address: u32 },
-    Named(Name),
-}
-
+// Sections, labels, references and commons; texts; relocation items; and the entry point. Sections and what constants move with
+// stand by their places among the items, as no field can borrow from another of its struct. All addresses are input addresses.
 #[derive(Drop)]
 pub struct Deck {
-    pub(crate) items: Vec<Item>,
-    pub(crate) texts: Vec<Text>,
-    pub(crate) constants: Vec<Constant>,
-    pub(crate) entry: Option<Entry>,
-    ghost item_room: { 1536 ≤ vec_capacity items },
-    ghost text_room: { 512 ≤ vec_capacity texts },
-    ghost constant_room: { 7168 ≤ vec_capacity constants },
-    ghost few_items: { vec_len items ≤ 1536 },
-    ghost few_texts: { vec_len texts ≤ 512 },
-    ghost few_constants: { vec_len constants ≤ 7168 },
+    pub(crate) items: Reserved<OnCard<Item<usize>>, MAX_ITEMS>,
+    pub(crate) texts: Reserved<OnCard<Text<usize>>, MAX_TEXTS>,
+    pub(crate) constants: Reserved<OnCard<Constant<usize>>, MAX_CONSTANTS>,
+    pub(crate) entry: Option<Entry<usize>>,
 }
 
 impl Deck {
     pub(crate) fn new(heap: Global) -> Result<Deck, AllocError> {
         Ok(Deck {
-            items: Vec::with_capacity(heap, 1536)?,
-            texts: Vec::with_capacity(heap, 512)?,
-            constants: Vec::with_capacity(heap, 7168)?,
+            items: Reserved::new(heap)?,
+            texts: Reserved::new(heap)?,
+            constants: Reserved::new(heap)?,
             entry: None,
         })
     }
 
+    // Three lists that can be read and not changed from outside: one function cannot give all, as their elements differ.
+
     // Sections, labels, references and commons, in the order of their cards.
-    pub fn items(&self) -> &[Item]
-        ensures value { result.now ≡ self.now.items.items }
+    pub fn items(&self) -> &[OnCard<Item<usize>>]
+        ensures value { result.now ≡ self.now.items.all.items }
         ensures few { length result.now ≤ 1536 }
     {
-        self.items.as_slice()
+        self.items.all.as_slice()
     }
 
-    pub fn texts(&self) -> &[Text]
-        ensures value { result.now ≡ self.now.texts.items }
+    pub fn texts(&self) -> &[OnCard<Text<usize>>]
+        ensures value { result.now ≡ self.now.texts.all.items }
         ensures few { length result.now ≤ 512 }
     {
-        self.texts.as_slice()
+        self.texts.all.as_slice()
     }
 
-    pub fn constants(&self) -> &[Constant]
-        ensures value { result.now ≡ self.now.constants.items }
+    pub fn constants(&self) -> &[OnCard<Constant<usize>>]
+        ensures value { result.now ≡ self.now.constants.all.items }
         ensures few { length result.now ≤ 7168 }
     {
-        self.constants.as_slice()
+        self.constants.all.as_slice()
     }
 
-    pub fn entry(&self) -> Option<Entry>
+    pub fn entry(&self) -> Option<Entry<usize>>
         ensures { result ≡ self.now.entry }
     {
         self.entry

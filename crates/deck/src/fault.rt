@@ -6,7 +6,7 @@ ghost use Rattle.deck.specs.Told.{told_deck};
 use card::{CardAt, CardFault, Layer, Refusal};
 use library::LibraryFault;
 
-#[derive(Clone, Copy)]
+#[derive(Clone, Copy, PartialEq, Eq, Debug)]
 pub enum DeckFault {
     Library(LibraryFault),
     Card(CardFault),
@@ -17,15 +17,15 @@ pub enum DeckFault {
     NameTwice(CardAt),
 }
 
-impl DeckFault {
-    pub fn refusal(self) -> Refusal
-        ensures { result ≡ told_deck self }
-    {
-        match self {
-            DeckFault::Library(fault) => fault.refusal(),
-            DeckFault::Card(fault) => fault.refusal(),
+impl From<DeckFault> for Refusal {
+    ghost from_gives = { λ fault told. told ≡ told_deck fault };
+
+    fn from(fault: DeckFault) -> Refusal {
+        match fault {
+            DeckFault::Library(fault) => Refusal::from(fault),
+            DeckFault::Card(fault) => Refusal::from(fault),
             DeckFault::UnknownId(at) => at.refused(Layer::Deck, 18),
-            DeckFault::UnclearLength { deck } => CardAt { deck, card: 0 }.refused(Layer::Deck, 19),
+            DeckFault::UnclearLength { deck } => Refusal::of_deck(Layer::Deck, 19, deck),
             DeckFault::OutsideSection(at) => at.refused(Layer::Deck, 20),
             DeckFault::ConstantsOverlap(at) => at.refused(Layer::Deck, 21),
             DeckFault::NameTwice(at) => at.refused(Layer::Deck, 22),

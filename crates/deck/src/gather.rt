@@ -3,34 +3,31 @@ ghost use Rattle.std.specs.Prelude.{◌≡◌, ◌+◌, ◌<◌, ◌≤◌, IfOk
 ghost use Rattle.deck.specs.Gathered.{Room, Grown, Clear};
 ghost use Rattle.card.specs.Names.{number_of};
 ghost use Rattle.library.specs.Slots.{slot_at};
-ghost use Rattle.deck.specs.Asked.{cards_of, bytes_at};
+ghost use Rattle.deck.specs.Asked.{cards_of, fault_at, bytes_at};
 
 use crate::fault::DeckFault;
 use crate::ids::{IdRows, give_id};
-use crate::punched::{Punched, PunchedConstant, PunchedItem, PunchedText};
-use card::{Card, CardAt, CardFault, EndCard, EsdCard, EsdItem, Name, RldCard, TxtCard, parse};
-use library::{CardAnswer, Library, LibraryFault};
+use crate::punched::Punched;
+use crate::rules::OnCard;
+use card::{Card, CardAt, CardFault, EndCard, EsdCard, Item, Name, RldCard, Text, parse};
+use library::{Library, LibraryFault, NoCard};
 use table::Count;
 
 // Whether an item of this kind has an ID: all have but labels.
-fn has_id(item: EsdItem) -> bool {
-    match item {
-        EsdItem::Label { .. } => false,
-        EsdItem::Section { .. }
-        | EsdItem::Private { .. }
-        | EsdItem::Reference { .. }
-        | EsdItem::Common { .. } => true,
-    }
+fn has_id(item: Item<u32>) -> bool {
+    !matches!(item, Item::Label { .. })
 }
 
+// What each part of a card adds is bounded by `Room` and `Grown`, and not by an invariant that counts cards: every function here
+// would have to restore it.
 impl Punched {
     // Forgets the deck before.
     pub(crate) fn clear(&mut self)
         ensures { Clear self.new }
     {
-        self.items.clear();
-        self.texts.clear();
-        self.constants.clear();
+        self.items.all.clear();
+        self.texts.all.clear();
+        self.constants.all.clear();
         self.end = EndCard {
             entry: None,
             length: None,
@@ -40,24 +37,24 @@ impl Punched {
     // One item, which has the ID `id` unless it is a label; gives the ID of the next.
     fn take_item(
         &mut self,
-        item: EsdItem,
+        item: Item<u32>,
         id: u32,
         at: CardAt,
         rows: &mut IdRows,
         count: &mut Count,
     ) -> Result<u32, CardFault>
-        requires { vec_len self.old.items < 1536 }
-        ensures items { vec_len self.new.items ≤ vec_len self.old.items + 1 }
-        ensures others { (vec_len self.new.texts ≡ vec_len self.old.texts) × (vec_len self.new.constants ≡ vec_len self.old.constants) }
+        requires { vec_len self.old.items.all < 1536 }
+        ensures items { vec_len self.new.items.all ≤ vec_len self.old.items.all + 1 }
+        ensures others { (vec_len self.new.texts.all ≡ vec_len self.old.texts.all) × (vec_len self.new.constants.all ≡ vec_len self.old.constants.all) }
     {
         let mut next = id;
         if has_id(item) {
-            give_id(rows, count, id, self.items.len(), at)?;
+            give_id(rows, count, id, self.items.all.len(), at)?;
             next = id.saturating_add(1);
         }
-        self.items.push_reserved(PunchedItem {
+        self.items.all.push_reserved(OnCard {
             card: at.card,
-            item,
+            what: item,
         });
         Ok(next)
     }
@@ -81,11 +78,11 @@ impl Punched {
         Ok(())
     }
 
-    fn take_txt(&mut self, text: TxtCard, card: u16)
+    fn take_txt(&mut self, text: Text<u16>, card: u16)
         requires { Room self.old }
         ensures { Grown self.old self.new }
     {
-        self.texts.push_reserved(PunchedText { card, text });
+        self.texts.all.push_reserved(OnCard { card, what: text });
     }
 
     fn take_rld(&mut self, rld: &RldCard, card: u16)
@@ -94,7 +91,8 @@ impl Punched {
     {
         for item in rld.items() {
             self.constants
-                .push_reserved(PunchedConstant { card, item: *item });
+                .all
+                .push_reserved(OnCard { card, what: *item });
         }
     }
 
@@ -126,11 +124,18 @@ fn ask_count<L: Library>(library: &mut L, name: Name) -> Result<u16, LibraryFaul
     ensures answer { result ≡ cards_of (number_of name) (L.Library.meaning library.old name) }
     ensures few { IfOk result (λ n. n ≤ 512) }
 {
-    match library.count(name) {
-        Some(cards) => Ok(cards),
-        None => Err(LibraryFault::NoSuchDeck {
-            deck: name.number(),
-        }),
+    library.count(name).ok_or(LibraryFault::NoSuchDeck {
+        deck: name.number(),
+    })
+}
+
+// Why a card of a deck cannot be had.
+fn fault_at(at: CardAt, no_card: NoCard) -> LibraryFault
+    ensures { result ≡ fault_at at no_card }
+{
+    match no_card {
+        NoCard::Flawed(mark) => LibraryFault::FlawedCard { at, mark },
+        NoCard::Nothing => LibraryFault::NoSuchDeck { deck: at.deck },
     }
 }
 
@@ -140,11 +145,10 @@ fn ask_card<L: Library>(library: &mut L, name: Name, at: CardAt) -> Result<[u8; 
     ensures answer { result ≡ bytes_at at (slot_at (L.Library.meaning library.old name) at.card) }
 {
     let mut card = [0; 80];
-    match library.card(name, at.card, &mut card) {
-        CardAnswer::Copied => Ok(card),
-        CardAnswer::Flawed(mark) => Err(LibraryFault::FlawedCard { at, mark }),
-        CardAnswer::Nothing => Err(LibraryFault::NoSuchDeck { deck: at.deck }),
-    }
+    library
+        .card(name, at.card, &mut card)
+        .map_err(|no_card| fault_at(at, no_card))?;
+    Ok(card)
 }
 
 // Reads every card of a deck, and tells how many there are.
@@ -160,10 +164,10 @@ pub(crate) fn read_cards<L: Library>(
 {
     let cards = ask_count(library, name)?;
     let deck = name.number();
-    for i in 0..cards {
-        let at = CardAt { deck, card: i + 1 };
-        let card = ask_card(library, name, at)?;
-        let content = parse(card, at, i + 1 == cards)?;
+    for card in 1..=cards {
+        let at = CardAt { deck, card };
+        let bytes = ask_card(library, name, at)?;
+        let content = parse(bytes, at, card == cards)?;
         punched.take_card(content, at, rows, count)?;
     }
     Ok(cards)

@@ -1,9 +1,12 @@
 // The table of a deck's IDs: lent rows, and a count record that is zero again whenever a deck was read.
 ghost use Rattle.std.specs.Prelude.{◌≡◌};
 
-use crate::punched::PunchedItem;
-use card::{CardAt, CardFault, EsdItem};
+use crate::rules::OnCard;
+use card::{CardAt, CardFault, Item};
 use table::{Count, Row, insert, lookup};
+
+// Rows and count travel together as two parameters: they are lent as two, so that the guard below can stand over the count alone.
+// A struct of both references was tried; each function that it passes through then has to promise that they are still those lent.
 
 // One row for each of the 256 IDs that a deck may give; the value is the item's place among the deck's items.
 pub type IdRows = [Row<u16, usize>; 256];
@@ -31,17 +34,12 @@ pub(crate) fn give_id(
     at: CardAt,
 ) -> Result<(), CardFault> {
     let fault = CardFault::BadId(at);
-    let id = match u16::try_from(id) {
-        Ok(id) => id,
-        Err(_) => return Err(fault),
-    };
+    let id = u16::try_from(id).map_err(|_| fault)?;
     if id == 0 || lookup(rows, count, id).is_some() {
         return Err(fault);
     }
-    match insert(rows, count, id, item) {
-        Ok(_) => Ok(()),
-        Err(_) => Err(fault),
-    }
+    insert(rows, count, id, item).map_err(|_| fault)?;
+    Ok(())
 }
 
 // The items of a deck by their IDs.
@@ -49,7 +47,7 @@ pub(crate) fn give_id(
 pub(crate) struct Ids<'r, 'c, 'i> {
     pub(crate) rows: &'r [Row<u16, usize>],
     pub(crate) count: &'c Count,
-    pub(crate) items: &'i [PunchedItem],
+    pub(crate) items: &'i [OnCard<Item<u32>>],
 }
 
 impl Ids<'_, '_, '_> {
@@ -60,14 +58,10 @@ impl Ids<'_, '_, '_> {
 
     // The place of the section that has the ID; none where no section has it.
     pub(crate) fn section(&self, id: u32) -> Option<usize> {
-        let id = match u16::try_from(id) {
-            Ok(id) => id,
-            Err(_) => return None,
-        };
-        let place = self.item(id)?;
-        match self.items.get(place)?.item {
-            EsdItem::Section { .. } | EsdItem::Private { .. } => Some(place),
-            EsdItem::Label { .. } | EsdItem::Reference { .. } | EsdItem::Common { .. } => None,
+        let place = self.item(u16::try_from(id).ok()?)?;
+        match self.items.get(place)?.what {
+            Item::Section { .. } => Some(place),
+            Item::Label { .. } | Item::Reference { .. } | Item::Common { .. } => None,
         }
     }
 }

@@ -1,6 +1,7 @@
 // Reading a deck: its cards from a library, judged whole.
 #![tactic(auto)]
 
+mod apart;
 mod bounds;
 mod content;
 mod defined;
@@ -12,11 +13,10 @@ mod punched;
 mod resolve;
 mod room;
 mod rules;
-mod scratch;
 
-pub use bounds::width_of;
-pub use content::{Constant, Deck, Entry, Item, ItemKind, Text};
+pub use content::Deck;
 pub use fault::DeckFault;
 pub use ids::IdRows;
+pub use punched::MAX_ITEMS;
 pub use room::DeckRoom;
-pub use rules::{Carded, Rule, lower, worst};
+pub use rules::{OnCard, Rule, lower, unbroken, worst};

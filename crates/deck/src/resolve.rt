@@ -1,92 +1,99 @@
 // From IDs to places: items, texts and constants know each other by their places among the items.
 ghost use Rattle.std.specs.Prelude.{◌≤◌, length};
 
-use crate::content::{Constant, Deck, Entry, Item, ItemKind, Text};
+use crate::content::Deck;
 use crate::ids::{IdRows, Ids};
-use crate::punched::{Punched, PunchedConstant, PunchedItem, PunchedText};
-use crate::rules::lower;
-use card::{EndEntry, EsdItem};
+use crate::punched::Punched;
+use crate::rules::{OnCard, lower};
+use card::{Constant, Entry, Item, Text};
+use reserved::Reserved;
 use table::Count;
 
 // The length of a section: END's where its ESD item says zero and END gives one.
 fn full_length(esd: u32, end: Option<u32>) -> u32 {
     match end {
-        Some(length) => { if esd == 0 { length } else { esd } }
-        None => esd,
+        Some(length) if esd == 0 => length,
+        _ => esd,
     }
 }
 
-// What an item is; none where it is a label whose section ID no section has.
-fn kind_of(item: EsdItem, ids: Ids, end: Option<u32>) -> Option<ItemKind> {
+// An item by the place of its section; none where it is a label whose section ID no section has.
+fn item_of(item: Item<u32>, ids: Ids, end: Option<u32>) -> Option<Item<usize>> {
     match item {
-        EsdItem::Section {
+        Item::Section {
             name,
             address,
             length,
-        } => Some(ItemKind::Section {
-            name: Some(name),
+        } => Some(Item::Section {
+            name,
             address,
             length: full_length(length, end),
         }),
-        EsdItem::Private { address, length } => Some(ItemKind::Section {
-            name: None,
-            address,
-            length: full_length(length, end),
-        }),
-        EsdItem::Label {
+        Item::Label {
             name,
             address,
             section,
-        } => {
-            let section = ids.section(section)?;
-            Some(ItemKind::Label {
-                name,
-                address,
-                section,
-            })
-        }
-        EsdItem::Reference { name, strength } => Some(ItemKind::Reference { name, strength }),
-        EsdItem::Common { name, length } => Some(ItemKind::Common { name, length }),
+        } => Some(Item::Label {
+            name,
+            address,
+            section: ids.section(section)?,
+        }),
+        Item::Reference { name, strength } => Some(Item::Reference { name, strength }),
+        Item::Common { name, length } => Some(Item::Common { name, length }),
     }
 }
 
 // A text by the place of its section.
-fn text_of(text: &PunchedText, ids: Ids) -> Option<Text> {
-    let section = ids.section(u32::from(text.text.section))?;
-    let bytes = text.text.bytes;
+fn text_of(text: Text<u16>, ids: Ids) -> Option<Text<usize>> {
     Some(Text {
-        card: text.card,
-        section,
-        address: text.text.address,
-        count: text.text.count,
-        bytes,
+        section: ids.section(u32::from(text.section))?,
+        address: text.address,
+        count: text.count,
+        bytes: text.bytes,
     })
 }
 
 // A constant by the places of its section and of what it moves with.
-fn constant_of(constant: &PunchedConstant, ids: Ids) -> Option<Constant> {
-    let item = constant.item;
-    let target = ids.item(item.r)?;
-    let section = ids.section(u32::from(item.p))?;
+fn constant_of(constant: Constant<u16>, ids: Ids) -> Option<Constant<usize>> {
     Some(Constant {
-        card: constant.card,
-        target,
-        section,
-        address: item.address,
-        width: item.width,
-        sign: item.sign,
+        target: ids.item(constant.target)?,
+        section: ids.section(u32::from(constant.section))?,
+        address: constant.address,
+        width: constant.width,
+        sign: constant.sign,
     })
 }
 
-// END's entry by the place of its section; an ID that no section has is the fault.
-fn entry_of(entry: EndEntry, ids: Ids) -> Option<Entry> {
+// END's entry by the place of its section; none where its ID is no section's.
+fn entry_of(entry: Entry<u16>, ids: Ids) -> Option<Entry<usize>> {
     match entry {
-        EndEntry::Address { id, address } => {
-            let section = ids.section(u32::from(id))?;
-            Some(Entry::Address { section, address })
-        }
-        EndEntry::Named(name) => Some(Entry::Named(name)),
+        Entry::Address { section, address } => Some(Entry::Address {
+            section: ids.section(u32::from(section))?,
+            address,
+        }),
+        Entry::Named(name) => Some(Entry::Named(name)),
     }
+}
+
+// Takes what is punched over as what it comes to; tells the smallest card of what comes to nothing.
+fn take_over<P: Copy, X: Copy, const N: usize, F: Fn(P) -> Option<X>>(
+    punched: &[OnCard<P>],
+    into: &mut Reserved<OnCard<X>, N>,
+    before: Option<u16>,
+    resolve: F,
+) -> Option<u16>
+    requires few { length punched.now ≤ N }
+    requires callable { F.IsAlwaysCallable resolve }
+{
+    let mut found = before;
+    into.all.clear();
+    for x in punched {
+        match resolve(x.what) {
+            Some(what) => into.all.push_reserved(OnCard { card: x.card, what }),
+            None => found = lower(found, x.card),
+        }
+    }
+    found
 }
 
 impl Deck {
@@ -99,71 +106,26 @@ impl Deck {
         count: &Count,
         last: u16,
     ) -> Option<u16> {
-        let items = punched.items.as_slice();
+        let items = punched.items.all.as_slice();
+        let texts = punched.texts.all.as_slice();
+        let constants = punched.constants.all.as_slice();
+        let end = punched.end.length;
         let ids = Ids { rows, count, items };
-        let in_items = self.take_items(items, ids, punched.end.length);
-        let in_texts = self.take_texts(punched.texts.as_slice(), ids, in_items);
-        let in_constants = self.take_constants(punched.constants.as_slice(), ids, in_texts);
-        self.take_entry(punched.end.entry, ids, last, in_constants)
-    }
-
-    // Takes the items over; tells the smallest card of a label without a section.
-    fn take_items(&mut self, items: &[PunchedItem], ids: Ids, end: Option<u32>) -> Option<u16>
-        requires { length items.now ≤ 1536 }
-    {
-        let mut found = None;
-        self.items.clear();
-        for item in items {
-            match kind_of(item.item, ids, end) {
-                Some(kind) => self.items.push_reserved(Item {
-                    card: item.card,
-                    kind,
-                }),
-                None => found = lower(found, item.card),
-            }
-        }
-        found
-    }
-
-    // Takes the texts over; tells the smallest card of one without a section.
-    fn take_texts(&mut self, texts: &[PunchedText], ids: Ids, before: Option<u16>) -> Option<u16>
-        requires { length texts.now ≤ 512 }
-    {
-        let mut found = before;
-        self.texts.clear();
-        for text in texts {
-            match text_of(text, ids) {
-                Some(text) => self.texts.push_reserved(text),
-                None => found = lower(found, text.card),
-            }
-        }
-        found
-    }
-
-    // Takes the constants over; tells the smallest card of one with an ID that is not given, or is no section's.
-    fn take_constants(
-        &mut self,
-        constants: &[PunchedConstant],
-        ids: Ids,
-        before: Option<u16>,
-    ) -> Option<u16>
-        requires { length constants.now ≤ 7168 }
-    {
-        let mut found = before;
-        self.constants.clear();
-        for constant in constants {
-            match constant_of(constant, ids) {
-                Some(constant) => self.constants.push_reserved(constant),
-                None => found = lower(found, constant.card),
-            }
-        }
-        found
+        let found = take_over(items, &mut self.items, None, |item| item_of(item, ids, end));
+        let found = take_over(texts, &mut self.texts, found, |text| text_of(text, ids));
+        let found = take_over(
+            constants,
+            &mut self.constants,
+            found,
+            |constant| constant_of(constant, ids),
+        );
+        self.take_entry(punched.end.entry, ids, last, found)
     }
 
     // Takes END's entry over; tells END's card where its ID is not given, or is no section's.
     fn take_entry(
         &mut self,
-        entry: Option<EndEntry>,
+        entry: Option<Entry<u16>>,
         ids: Ids,
         last: u16,
         before: Option<u16>,

@@ -1,14 +1,17 @@
 // Room for one deck, and reading a deck into it.
 ghost use Rattle.std.specs.Prelude.{◌≡◌};
 
+use crate::apart::first_clash;
 use crate::content::Deck;
 use crate::fault::DeckFault;
 use crate::gather::read_cards;
 use crate::ids::{Emptied, IdRows};
-use crate::punched::{Punched, PunchedItem};
-use crate::scratch::{Defined, Spots};
-use card::{CardAt, EsdItem, Name};
+use crate::overlap::Spot;
+use crate::punched::{MAX_CONSTANTS, MAX_ITEMS, Punched};
+use crate::rules::{OnCard, unbroken};
+use card::{Item, Name};
 use library::Library;
+use reserved::Reserved;
 use std::alloc::{AllocError, Global};
 use table::Count;
 
@@ -17,25 +20,20 @@ use table::Count;
 pub struct DeckRoom {
     punched: Punched,
     deck: Deck,
-    spots: Spots,
-    defined: Defined,
+    // where the deck's constants lie
+    spots: Reserved<Spot, MAX_CONSTANTS>,
+    // the names that it defines, as numbers
+    defined: Reserved<u64, MAX_ITEMS>,
 }
 
 // Whether END's length could belong to two sections: two have ESD length zero.
-fn is_unclear(items: &[PunchedItem], length: Option<u32>) -> bool {
-    length.is_some() && blank_sections(items) >= 2
+fn is_unclear(items: &[OnCard<Item<u32>>], length: Option<u32>) -> bool {
+    length.is_some() && items.iter().filter(|item| has_no_length(item.what)).count() >= 2
 }
 
-// How many sections have ESD length zero.
-fn blank_sections(items: &[PunchedItem]) -> usize {
-    let mut blank = 0;
-    for item in items {
-        match item.item {
-            EsdItem::Section { length: 0, .. } | EsdItem::Private { length: 0, .. } => blank += 1,
-            _ => {}
-        }
-    }
-    blank
+// A section of ESD length zero.
+fn has_no_length(item: Item<u32>) -> bool {
+    matches!(item, Item::Section { length: 0, .. })
 }
 
 impl DeckRoom {
@@ -43,8 +41,8 @@ impl DeckRoom {
         Ok(DeckRoom {
             punched: Punched::new(heap)?,
             deck: Deck::new(heap)?,
-            spots: Spots::new(heap)?,
-            defined: Defined::new(heap)?,
+            spots: Reserved::new(heap)?,
+            defined: Reserved::new(heap)?,
         })
     }
 
@@ -63,22 +61,16 @@ impl DeckRoom {
         deck: u64,
         last: u16,
     ) -> Result<(), DeckFault> {
-        if let Some(card) = self.deck.resolve(&self.punched, rows, count, last) {
-            return Err(DeckFault::UnknownId(CardAt { deck, card }));
-        }
-        if is_unclear(self.punched.items.as_slice(), self.punched.end.length) {
+        let unknown = self.deck.resolve(&self.punched, rows, count, last);
+        unbroken(deck, unknown).map_err(DeckFault::UnknownId)?;
+        if is_unclear(self.punched.items.all.as_slice(), self.punched.end.length) {
             return Err(DeckFault::UnclearLength { deck });
         }
-        if let Some(card) = self.deck.outside(last) {
-            return Err(DeckFault::OutsideSection(CardAt { deck, card }));
-        }
-        if let Some(card) = self.spots.first_overlap(self.deck.constants()) {
-            return Err(DeckFault::ConstantsOverlap(CardAt { deck, card }));
-        }
-        if let Some(card) = self.defined.first_repeat(self.deck.items()) {
-            return Err(DeckFault::NameTwice(CardAt { deck, card }));
-        }
-        Ok(())
+        unbroken(deck, self.deck.outside(last)).map_err(DeckFault::OutsideSection)?;
+        let overlap = first_clash(&mut self.spots, self.deck.constants());
+        unbroken(deck, overlap).map_err(DeckFault::ConstantsOverlap)?;
+        let again = first_clash(&mut self.defined, self.deck.items());
+        unbroken(deck, again).map_err(DeckFault::NameTwice)
     }
 
     // Reads the deck of a name from a library and judges it whole; the ID table is empty afterwards.
@@ -92,10 +84,10 @@ impl DeckRoom {
         ensures same { L.Library.meaning library.new ≡ L.Library.meaning library.old }
         ensures emptied { count.new.rows ≡ 0 }
     {
-        let ids = Emptied { count };
-        ids.count.rows = 0;
+        let emptied = Emptied { count };
+        emptied.count.rows = 0;
         self.punched.clear();
-        let last = read_cards(library, name, rows, ids.count, &mut self.punched)?;
-        self.judge(rows, ids.count, name.number(), last)
+        let last = read_cards(library, name, rows, emptied.count, &mut self.punched)?;
+        self.judge(rows, emptied.count, name.number(), last)
     }
 }

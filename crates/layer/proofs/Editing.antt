@@ -1,25 +1,13 @@
 -- Cards and slots with their names changed, step by step.
-use Rattle.std.proofs.Common.{◌≡◌, ℕ, zero, suc, ◌+◌, ◌-◌, ◌*◌, ◌<◌, ◌≤◌, List, [], ◌∷◌, map, Some, None, Option, refl, ap, ◌∙◌, arith}
+use Rattle.std.proofs.Common.{◌≡◌, ℕ, zero, suc, List, [], ◌∷◌, map, Some, None, Ok, Option, refl, ap, arith}
 use lib.ListN.{length-map}
 use Rattle.std.specs.Option.{option_map}
 use Rattle.library.specs.Answers.{answered, filled}
-use Rattle.library.specs.declared.shelf.CardAnswer.TheVariants.{Copied}
 use Rattle.library.specs.Slots.{Slot, Card, Flaw, at, from1, slot_at, counted}
 use Rattle.layer.specs.Renamed.{Renaming}
-use Rattle.layer.specs.Changed.{rename_at, rename_from, edited, changed_slot, changed}
+use Rattle.layer.specs.Changed.{edited, changed_slot, changed}
 
 module _ (pairs : List Renaming) where
-  -- one name more of n
-  pub from_more : (n k : ℕ) (card : List ℕ) → k < n → rename_from pairs (n - k) (16 + 16 * k) card ≡ rename_from pairs (n - (k + 1)) (16 + 16 * (k + 1)) (rename_at pairs (16 + 16 * k) card)
-  from_more n k card h =
-      let e : n - k ≡ suc (n - (k + 1)) = omega arith in
-      let f : 16 + 16 * k + 16 ≡ 16 + 16 * (k + 1) = omega arith in
-      ap (λ m. rename_from pairs m (16 + 16 * k) card) e ∙ ap (λ a. rename_from pairs (n - (k + 1)) a (rename_at pairs (16 + 16 * k) card)) f
-
-  -- no name left
-  pub from_all : (n k a : ℕ) (card : List ℕ) → n ≤ k → rename_from pairs (n - k) a card ≡ card
-  from_all n k a card h = let e : n - k ≡ 0 = omega arith in ap (λ m. rename_from pairs m a card) e
-
   pub counted_changed : (o : Option (List Slot)) → counted (changed pairs o) ≡ counted o
   counted_changed None = refl
   counted_changed (Some slots) = ap Some (length-map slots (changed_slot pairs))
@@ -37,7 +25,7 @@ module _ (pairs : List Renaming) where
   slot_changed None i = refl
   slot_changed (Some slots) i = from1-changed slots i
 
-  pub copied_changed : (o : Option Slot) (old : List ℕ) → Copied ≡ answered o → edited pairs (filled o old) ≡ filled (option_map (changed_slot pairs) o) old
+  pub copied_changed : (o : Option Slot) (old : List ℕ) → Ok tt ≡ answered o → edited pairs (filled o old) ≡ filled (option_map (changed_slot pairs) o) old
   copied_changed None old h = let z : ◌≡◌ {A = ℕ} 0 1 = cc in absurd (omega arith)
   copied_changed (Some (Card b)) old h = refl
   copied_changed (Some (Flaw m)) old h = let z : ◌≡◌ {A = ℕ} 0 1 = cc in absurd (omega arith)

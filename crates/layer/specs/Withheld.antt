@@ -1,20 +1,15 @@
 -- What a library means where names are withheld.
-use Rattle.std.specs.Prelude.{Bool, true, false, cond, ◌||◌, List, [], ◌∷◌, take, None, Option}
+use Rattle.std.specs.Prelude.{Bool, true, false, cond, ◌||◌, List, None, Option}
+use Rattle.std.specs.List.{list_any}
 use Rattle.card.specs.declared.name.Name.{Name}
 use Rattle.card.specs.Names.{same_name, is_blank}
 use Rattle.library.specs.declared.fault.LibraryFault.{LibraryFault}
 use Rattle.library.specs.Slots.{Slot, Sound}
-use Rattle.layer.specs.declared.tables.Names.{Names}
 use Rattle.layer.specs.Additions.{fault_of}
-
--- the names of a table
-abbrev pub listed : Names → List Name
-listed t = take t.used t.all
 
 -- a name is among the names
 abbrev pub among : Name → List Name → Bool
-among name [] = false
-among name (x ∷ xs) = cond (same_name x name) true (among name xs)
+among name names = list_any (λ x. same_name x name) names
 
 -- a name that is blank or withheld already
 abbrev pub bad_name : List Name → Name → Bool

@@ -1,19 +1,25 @@
 // A library in whose cards some names are changed.
 ghost use Rattle.std.specs.Prelude.{◌≡◌, []};
-ghost use Rattle.layer.specs.Additions.{answer_by, table_after};
+ghost use Rattle.library.specs.Answers.{answer_by};
+ghost use Rattle.layer.specs.Additions.{table_after};
 ghost use Rattle.layer.specs.Renamed.{renamings, renamings_eight, change_fault};
 ghost use Rattle.layer.specs.Changed.{changed, changed_sound};
 
 use crate::edit::edit;
-use crate::tables::Pairs;
+use crate::pair::Pair;
+use crate::pairs::is_bad;
+use crate::table::add;
+use arrayvec::ArrayVec;
 use card::Name;
-use library::{CardAnswer, Library, LibraryFault};
+use library::{Library, LibraryFault, NoCard};
+
+const MAX_PAIRS: usize = 16;
 
 // Its cards come with each old name of the table changed to its new name.
 #[derive(Drop)]
 pub struct Change<L> {
     below: L,
-    pairs: Pairs,
+    pairs: ArrayVec<Pair, MAX_PAIRS>,
 }
 
 impl<L: Library> Change<L> {
@@ -24,7 +30,7 @@ impl<L: Library> Change<L> {
     {
         Change {
             below,
-            pairs: Pairs::none(),
+            pairs: ArrayVec::new(),
         }
     }
 
@@ -34,7 +40,8 @@ impl<L: Library> Change<L> {
         ensures answer { result ≡ answer_by (change_fault (renamings self.old.pairs) (record { old = old; new = new })) }
         ensures pairs { renamings self.new.pairs ≡ table_after (change_fault (renamings self.old.pairs) (record { old = old; new = new })) (renamings self.old.pairs) (record { old = old; new = new }) }
     {
-        self.pairs.add(old, new)
+        let bad = is_bad(self.pairs.as_slice(), old, new);
+        add(&mut self.pairs, Pair { old, new }, bad)
     }
 
     // Gives the library below back.
@@ -55,13 +62,9 @@ impl<L: Library> Library for Change<L> {
         self.below.count(name)
     }
 
-    fn card(&mut self, name: Name, i: u16, into: &mut [u8; 80]) -> CardAnswer {
-        match self.below.card(name, i, into) {
-            CardAnswer::Copied => {
-                edit(into, &self.pairs);
-                CardAnswer::Copied
-            }
-            other => other,
-        }
+    fn card(&mut self, name: Name, i: u16, into: &mut [u8; 80]) -> Result<(), NoCard> {
+        self.below.card(name, i, into)?;
+        edit(into, self.pairs.as_slice());
+        Ok(())
     }
 }

@@ -4,9 +4,9 @@
 mod change;
 mod edit;
 mod join;
-mod names;
+mod pair;
 mod pairs;
-mod tables;
+mod table;
 mod withhold;
 
 pub use change::Change;

@@ -1,19 +1,13 @@
 -- A tray's bytes as cards, and its cards as decks.
-use Rattle.std.specs.Prelude.{ℕ, zero, suc, ◌*◌, ◌/◌, Bool, cond, ◌&&◌, List, [], ◌∷◌, length, take, drop, Some, None, Option, ◌==◌, slice_index}
+use Rattle.std.specs.Prelude.{ℕ, ◌+◌, ◌/◌, Bool, ◌&&◌, List, length, map, take, drop, filter, position, Option, ◌==◌, slice_index}
+use Rattle.std.specs.List.{before_first}
+use Rattle.std.specs.Option.{option_map}
+use Rattle.std.specs.Simd.{first_chunks}
 use Rattle.std.specs.Str.{bytes_eq}
 
--- the card at a place, counted from 0
-abbrev pub card_at : List ℕ → ℕ → List ℕ
-card_at bytes k = take 80 (drop (80 * k) bytes)
-
--- the first n cards
-abbrev pub cards : ℕ → List ℕ → List (List ℕ)
-cards zero bytes = []
-cards (suc n) bytes = take 80 bytes ∷ cards n (drop 80 bytes)
-
--- all the cards of a tray
+-- the cards of a tray, each of eighty bytes
 abbrev pub cards_of : List ℕ → List (List ℕ)
-cards_of bytes = cards (length bytes / 80) bytes
+cards_of bytes = first_chunks 80 (length bytes / 80) bytes
 
 -- a header begins with hex C4 C5 C3 D2
 abbrev pub is_header : List ℕ → Bool
@@ -29,15 +23,12 @@ is_header_of name card = is_header card && bytes_eq (name_on card) name
 
 -- the cards up to the next header
 abbrev pub deck : List (List ℕ) → List (List ℕ)
-deck [] = []
-deck (c ∷ cs) = cond (is_header c) [] (c ∷ deck cs)
+deck cs = before_first is_header cs
 
 -- the deck behind the first header of a name
 abbrev pub under : List ℕ → List (List ℕ) → Option (List (List ℕ))
-under name [] = None
-under name (c ∷ cs) = cond (is_header_of name c) (Some (deck cs)) (under name cs)
+under name cs = option_map (λ i. deck (drop (i + 1) cs)) (position (is_header_of name) cs)
 
 -- the names on the headers, in their order
 abbrev pub header_names : List (List ℕ) → List (List ℕ)
-header_names [] = []
-header_names (c ∷ cs) = cond (is_header c) (name_on c ∷ header_names cs) (header_names cs)
+header_names cs = map name_on (filter is_header cs)

@@ -1,5 +1,6 @@
 -- The rules of a tray.
-use Rattle.std.specs.Prelude.{ℕ, ◌/◌, ◌%◌, Bool, true, false, cond, not, ◌&&◌, List, [], ◌∷◌, length, Some, None, Option, ◌==◌, nat_le}
+use Rattle.std.specs.Prelude.{ℕ, ◌/◌, ◌%◌, Bool, true, cond, not, ◌&&◌, List, [], ◌∷◌, length, Some, None, Option, ◌==◌, nat_le}
+use Rattle.std.specs.List.{list_any}
 use Rattle.std.specs.Str.{bytes_eq}
 use Rattle.library.specs.declared.fault.LibraryFault.{LibraryFault}
 use Rattle.library.specs.declared.fault.LibraryFault.TheVariants.{BadTrayLength, BadTrayDecks, NameTwice}
@@ -32,8 +33,7 @@ good_decks cs = good_start cs && (nat_le (length (header_names cs)) 1024 && good
 
 -- a name is among the names
 abbrev pub among : List ℕ → List (List ℕ) → Bool
-among name [] = false
-among name (x ∷ xs) = cond (bytes_eq x name) true (among name xs)
+among name names = list_any (λ x. bytes_eq x name) names
 
 -- no name stands twice
 abbrev pub all_apart : List (List ℕ) → Bool

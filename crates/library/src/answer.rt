@@ -1,17 +1,16 @@
 // An open tray answers as a library.
-ghost use Rattle.std.specs.Prelude.{◌≡◌, ◌/◌, ◌≤◌, [], length, is_some, Some, None, MatchResult};
-ghost use Rattle.std.specs.Option.{unwrap_or};
-ghost use Rattle.library.specs.Decks.{cards_of, under};
+ghost use Rattle.std.specs.Prelude.{◌≡◌, Some, None, MatchResult};
+ghost use Rattle.library.specs.Decks.{cards_of};
 ghost use Rattle.library.specs.Faults.{tray_fault};
-ghost use Rattle.library.specs.Found.{cards_in, end_of};
+ghost use Rattle.library.specs.Found.{Finds};
 ghost use Rattle.library.specs.Held.{held_in};
 ghost use Rattle.library.specs.Sound.{held_sound};
 
-use crate::cards::card_at;
-use crate::check::fault_in;
+use crate::cards::cards_of;
+use crate::check::check;
 use crate::find::find_deck;
 use crate::stretch::Stretch;
-use crate::{CardAnswer, Library, LibraryFault, Tray};
+use crate::{Library, LibraryFault, NoCard, Tray};
 use card::Name;
 
 impl Tray {
@@ -19,11 +18,9 @@ impl Tray {
     pub fn open(bytes: Vec<u8>) -> Result<Tray, LibraryFault>
         ensures { MatchResult result (λ t. (tray_fault bytes.items ≡ None) × (t.bytes ≡ bytes)) (λ f. tray_fault bytes.items ≡ Some f) }
     {
-        if let Some(fault) = fault_in(bytes.as_slice()) {
-            return Err(fault);
-        }
+        check(bytes.as_slice())?;
         let asked = Name::blank();
-        let found = find_deck(bytes.as_slice(), asked);
+        let found = find_deck(cards_of(bytes.as_slice()), asked);
         Ok(Tray {
             bytes,
             asked,
@@ -46,14 +43,12 @@ impl Tray {
     // Turns to a name, and tells where its deck stands. Only a name other than the last is looked for.
     fn seek(&mut self, name: Name) -> Option<Stretch>
         ensures same { self.new.bytes ≡ self.old.bytes }
-        ensures known { is_some result ≡ is_some (under name.bytes (cards_of self.old.bytes.items)) }
-        ensures valid { cards_in result (cards_of self.old.bytes.items) ≡ unwrap_or (under name.bytes (cards_of self.old.bytes.items)) [] }
-        ensures within { end_of result ≤ length self.old.bytes.items / 80 }
+        ensures found { Finds result name (cards_of self.old.bytes.items) }
     {
         if self.asked == name {
             return self.found;
         }
-        let found = find_deck(self.bytes.as_slice(), name);
+        let found = find_deck(cards_of(self.bytes.as_slice()), name);
         self.asked = name;
         self.found = found;
         found
@@ -70,15 +65,15 @@ impl Library for Tray {
         Some(found.size)
     }
 
-    fn card(&mut self, name: Name, i: u16, into: &mut [u8; 80]) -> CardAnswer {
+    fn card(&mut self, name: Name, i: u16, into: &mut [u8; 80]) -> Result<(), NoCard> {
         let Some(found) = self.seek(name) else {
-            return CardAnswer::Nothing;
+            return Err(NoCard::Nothing);
         };
         if !found.has(i) {
-            return CardAnswer::Nothing;
+            return Err(NoCard::Nothing);
         }
-        let place = found.first + i as usize - 1;
-        into.copy_from_slice(card_at(self.bytes.as_slice(), place));
-        CardAnswer::Copied
+        let cards = cards_of(self.bytes.as_slice());
+        *into = cards[found.first + i as usize - 1];
+        Ok(())
     }
 }

@@ -1,10 +1,12 @@
 // The rules of a tray, looked through in their order.
-ghost use Rattle.std.specs.Prelude.{◌≡◌, ◌+◌, ◌/◌, ◌<◌, ◌≤◌, length, take, drop};
-ghost use Rattle.library.specs.Decks.{cards_of, card_at, header_names};
-ghost use Rattle.library.specs.Faults.{good_length, good_start, good_size, good_behind, good_sizes, good_decks, among, all_apart, tray_fault};
+ghost use Rattle.std.specs.Prelude.{◌≡◌, ◌≤◌, length};
+ghost use Rattle.library.specs.Answers.{answer_by};
+ghost use Rattle.library.specs.Decks.{cards_of, header_names};
+ghost use Rattle.library.specs.Faults.{good_length, good_start, good_size, good_behind, good_sizes, good_decks, all_apart, tray_fault};
 
 use crate::LibraryFault;
-use crate::cards::{card_at, deck_size, is_header, name_on};
+use crate::cards::{cards_of, deck_size, is_header, name_on};
+use arrayvec::ArrayVec;
 
 const MAX_CARDS: usize = 12_000;
 
@@ -12,20 +14,21 @@ const MAX_DECKS: usize = 1_024;
 
 const MAX_DECK: usize = 512;
 
-// The first rule that a tray breaks.
-pub(crate) fn fault_in(bytes: &[u8]) -> Option<LibraryFault>
-    ensures { result ≡ tray_fault bytes.now }
+// Refuses a tray by the first rule that it breaks.
+pub(crate) fn check(bytes: &[u8]) -> Result<(), LibraryFault>
+    ensures { result ≡ answer_by (tray_fault bytes.now) }
 {
     if !good_length(bytes) {
-        return Some(LibraryFault::BadTrayLength);
+        return Err(LibraryFault::BadTrayLength);
     }
-    if !good_decks(bytes) {
-        return Some(LibraryFault::BadTrayDecks);
+    let cards = cards_of(bytes);
+    if !good_decks(cards) {
+        return Err(LibraryFault::BadTrayDecks);
     }
-    if !names_apart(bytes) {
-        return Some(LibraryFault::NameTwice);
+    if !names_apart(cards) {
+        return Err(LibraryFault::NameTwice);
     }
-    None
+    Ok(())
 }
 
 fn good_length(bytes: &[u8]) -> bool
@@ -34,46 +37,44 @@ fn good_length(bytes: &[u8]) -> bool
     bytes.len() % 80 == 0 && bytes.len() / 80 <= MAX_CARDS
 }
 
-fn good_decks(bytes: &[u8]) -> bool
-    ensures { result ≡ good_decks (cards_of bytes.now) }
+fn good_decks(cards: &[[u8; 80]]) -> bool
+    ensures { result ≡ good_decks cards.now }
 {
-    good_start(bytes) && header_count(bytes) <= MAX_DECKS && good_sizes(bytes)
+    good_start(cards) && header_count(cards) <= MAX_DECKS && good_sizes(cards)
 }
 
-fn good_start(bytes: &[u8]) -> bool
-    ensures { result ≡ good_start (cards_of bytes.now) }
+fn good_start(cards: &[[u8; 80]]) -> bool
+    ensures { result ≡ good_start cards.now }
 {
-    bytes.len() < 80 || is_header(card_at(bytes, 0))
-}
-
-fn header_count(bytes: &[u8]) -> usize
-    ensures { result ≡ length (header_names (cards_of bytes.now)) }
-{
-    let mut count = 0;
-    for k in 0..bytes.len() / 80 {
-        if is_header(card_at(bytes, k)) {
-            count += 1;
-        }
+    match cards.first() {
+        Some(card) => is_header(card),
+        None => true,
     }
-    count
 }
 
-fn good_sizes(bytes: &[u8]) -> bool
-    ensures { result ≡ good_sizes (cards_of bytes.now) }
+fn header_count(cards: &[[u8; 80]]) -> usize
+    ensures { result ≡ length (header_names cards.now) }
 {
-    for k in 0..bytes.len() / 80 {
-        if !good_behind(bytes, k) {
+    cards.iter().filter(|card| is_header(card)).count()
+}
+
+fn good_sizes(cards: &[[u8; 80]]) -> bool
+    ensures { result ≡ good_sizes cards.now }
+{
+    let mut left = cards;
+    while let Some((card, behind)) = left.split_first() {
+        if !good_behind(card, behind) {
             return false;
         }
+        left = behind;
     }
     true
 }
 
-fn good_behind(bytes: &[u8], k: usize) -> bool
-    requires { k < length bytes.now / 80 }
-    ensures { result ≡ good_behind (card_at bytes.now k) (drop (k + 1) (cards_of bytes.now)) }
+fn good_behind(card: &[u8; 80], behind: &[[u8; 80]]) -> bool
+    ensures { result ≡ good_behind card.now behind.now }
 {
-    !is_header(card_at(bytes, k)) || good_size(deck_size(bytes, k + 1))
+    !is_header(card) || good_size(deck_size(behind))
 }
 
 fn good_size(size: usize) -> bool
@@ -83,54 +84,35 @@ fn good_size(size: usize) -> bool
 }
 
 // No two headers have one name.
-fn names_apart(bytes: &[u8]) -> bool
-    requires { length (header_names (cards_of bytes.now)) ≤ 1024 }
-    ensures { result ≡ all_apart (header_names (cards_of bytes.now)) }
+fn names_apart(cards: &[[u8; 80]]) -> bool
+    requires { length (header_names cards.now) ≤ 1024 }
+    ensures { result ≡ all_apart (header_names cards.now) }
 {
-    let mut names = no_names();
-    let count = names_into(bytes, &mut names);
-    all_apart(&names[0..count])
+    all_apart(header_names(cards).as_slice())
 }
 
-fn no_names() -> [[u8; 8]; MAX_DECKS] {
-    [[0; 8]; MAX_DECKS]
-}
-
-// Writes the names of the headers to the first places, and tells how many there are.
-fn names_into(bytes: &[u8], names: &mut [[u8; 8]]) -> usize
-    requires { length (header_names (cards_of bytes.now)) ≤ length names.old }
-    ensures count { result ≡ length (header_names (cards_of bytes.now)) }
-    ensures names { take result names.new ≡ header_names (cards_of bytes.now) }
+fn header_names(cards: &[[u8; 80]]) -> ArrayVec<[u8; 8], MAX_DECKS>
+    requires { length (header_names cards.now) ≤ 1024 }
+    ensures { result.items ≡ header_names cards.now }
 {
-    let mut count = 0;
-    for k in 0..bytes.len() / 80 {
-        let card = card_at(bytes, k);
+    let mut names = ArrayVec::new();
+    for card in cards {
         if is_header(card) {
-            names[count] = name_on(card);
-            count += 1;
+            names.push(name_on(card));
         }
     }
-    count
+    names
 }
 
 fn all_apart(names: &[[u8; 8]]) -> bool
     ensures { result ≡ all_apart names.now }
 {
-    for i in 0..names.len() {
-        if is_among(&names[i + 1..], names[i]) {
+    let mut left = names;
+    while let Some((name, others)) = left.split_first() {
+        if others.contains(name) {
             return false;
         }
+        left = others;
     }
     true
-}
-
-fn is_among(names: &[[u8; 8]], name: [u8; 8]) -> bool
-    ensures { result ≡ among name names.now }
-{
-    for other in names {
-        if *other == name {
-            return true;
-        }
-    }
-    false
 }

@@ -1,10 +1,10 @@
 // What can be wrong with a library, or with what is asked of it.
 ghost use Rattle.std.specs.Prelude.{◌≡◌};
-ghost use Rattle.library.specs.Told.{no_deck, told_library};
+ghost use Rattle.library.specs.Told.{told_library};
 
-use card::{CardAt, Layer, Name, Refusal};
+use card::{CardAt, Layer, Refusal};
 
-#[derive(Clone, Copy)]
+#[derive(Clone, Copy, PartialEq, Eq, Debug)]
 pub enum LibraryFault {
     BadTrayLength,
     BadTrayDecks,
@@ -17,35 +17,21 @@ pub enum LibraryFault {
     FlawedCard { at: CardAt, mark: u8 },
 }
 
-impl LibraryFault {
-    pub fn refusal(self) -> Refusal
-        ensures { result ≡ told_library self }
-    {
-        match self {
-            LibraryFault::BadTrayLength => no_deck(1),
-            LibraryFault::BadTrayDecks => no_deck(2),
-            LibraryFault::NameTwice => no_deck(5),
-            LibraryFault::TableFull => no_deck(6),
-            LibraryFault::BadName => no_deck(7),
-            LibraryFault::NoSuchDeck { deck } => CardAt { deck, card: 0 }.refused(
-                Layer::Library,
-                10,
-            ),
+impl From<LibraryFault> for Refusal {
+    ghost from_gives = { λ fault told. told ≡ told_library fault };
+
+    fn from(fault: LibraryFault) -> Refusal {
+        match fault {
+            LibraryFault::BadTrayLength => Refusal::without_deck(Layer::Library, 1),
+            LibraryFault::BadTrayDecks => Refusal::without_deck(Layer::Library, 2),
+            LibraryFault::NameTwice => Refusal::without_deck(Layer::Library, 5),
+            LibraryFault::TableFull => Refusal::without_deck(Layer::Library, 6),
+            LibraryFault::BadName => Refusal::without_deck(Layer::Library, 7),
+            LibraryFault::NoSuchDeck { deck } => Refusal::of_deck(Layer::Library, 10, deck),
             LibraryFault::FlawedCard { at, mark } => Refusal {
                 mark: Some(mark),
                 ..at.refused(Layer::Library, 11)
             },
         }
     }
-}
-
-// The rule of that number, broken where there is no deck to name.
-fn no_deck(number: u8) -> Refusal
-    ensures { result ≡ no_deck number }
-{
-    let at = CardAt {
-        deck: Name::blank().number(),
-        card: 0,
-    };
-    at.refused(Layer::Library, number)
 }

@@ -1,26 +1,24 @@
 // Where the deck of a name stands in a tray.
-ghost use Rattle.std.specs.Prelude.{◌≡◌, ◌/◌, ◌≤◌, false, [], length, is_some};
-ghost use Rattle.std.specs.Option.{unwrap_or};
-ghost use Rattle.library.specs.Decks.{cards_of, under};
-ghost use Rattle.library.specs.Faults.{tray_fault};
-ghost use Rattle.library.specs.Found.{cards_in, end_of};
+ghost use Rattle.std.specs.Prelude.{◌≡◌, true, position};
+ghost use Rattle.library.specs.Decks.{is_header_of};
+ghost use Rattle.library.specs.Faults.{good_sizes};
+ghost use Rattle.library.specs.Found.{Finds};
 
-use crate::cards::{card_at, deck_size, is_header_of};
+use crate::cards::{deck_size, is_header_of};
 use crate::stretch::Stretch;
 use card::Name;
 
-pub(crate) fn find_deck(bytes: &[u8], name: Name) -> Option<Stretch>
-    requires { is_some (tray_fault bytes.now) ≡ false }
-    ensures known { is_some result ≡ is_some (under name.bytes (cards_of bytes.now)) }
-    ensures valid { cards_in result (cards_of bytes.now) ≡ unwrap_or (under name.bytes (cards_of bytes.now)) [] }
-    ensures within { end_of result ≤ length bytes.now / 80 }
+fn find_header(cards: &[[u8; 80]], name: Name) -> Option<usize>
+    ensures { result ≡ position (is_header_of name.bytes) cards.now }
 {
-    for k in 0..bytes.len() / 80 {
-        if is_header_of(card_at(bytes, k), name.bytes) {
-            let first = k + 1;
-            let size = deck_size(bytes, first) as u16;
-            return Some(Stretch { first, size });
-        }
-    }
-    None
+    cards.iter().position(|card| is_header_of(card, name.bytes))
+}
+
+pub(crate) fn find_deck(cards: &[[u8; 80]], name: Name) -> Option<Stretch>
+    requires { good_sizes cards.now ≡ true }
+    ensures { Finds result name cards.now }
+{
+    let first = find_header(cards, name)? + 1;
+    let size = deck_size(&cards[first..]) as u16;
+    Some(Stretch { first, size })
 }

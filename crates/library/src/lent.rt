@@ -1,5 +1,5 @@
 // A library that is lent.
-use crate::{CardAnswer, Library};
+use crate::{Library, NoCard};
 use card::Name;
 
 impl<L: Library> Library for &mut L {
@@ -11,7 +11,7 @@ impl<L: Library> Library for &mut L {
         (**self).count(name)
     }
 
-    fn card(&mut self, name: Name, i: u16, into: &mut [u8; 80]) -> CardAnswer {
+    fn card(&mut self, name: Name, i: u16, into: &mut [u8; 80]) -> Result<(), NoCard> {
         (**self).card(name, i, into)
     }
 }

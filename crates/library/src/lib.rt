@@ -12,5 +12,5 @@ mod stretch;
 mod tray;
 
 pub use fault::LibraryFault;
-pub use shelf::{CardAnswer, Library};
+pub use shelf::{Library, NoCard};
 pub use tray::Tray;

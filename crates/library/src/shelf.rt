@@ -6,6 +6,7 @@ ghost use Rattle.library.specs.Answers.{answered, filled};
 
 use card::Name;
 
+// A function that is lent a library says for itself that its meaning stays (`same`): no type of a `&mut` can say it.
 pub trait Library {
     // What the library holds under each name. Asking does not change it.
     ghost meaning: { Self → Name → Option (List Slot) };
@@ -19,17 +20,15 @@ pub trait Library {
         ensures answer { result ≡ counted (meaning self.old name) };
 
     // Copies card i, from 1, of the deck of that name; `into` stays as it is where there is none to read.
-    fn card(&mut self, name: Name, i: u16, into: &mut [u8; 80]) -> CardAnswer
+    fn card(&mut self, name: Name, i: u16, into: &mut [u8; 80]) -> Result<(), NoCard>
         ensures same { meaning self.new ≡ meaning self.old }
         ensures answer { result ≡ answered (slot_at (meaning self.old name) i) }
         ensures filled { into.new ≡ filled (slot_at (meaning self.old name) i) into.old };
 }
 
-// What a library answers when it is asked for a card.
-#[derive(Clone, Copy)]
-pub enum CardAnswer {
-    // The card was copied.
-    Copied,
+// Why a library gives no card.
+#[derive(Clone, Copy, PartialEq, Eq, Debug)]
+pub enum NoCard {
     // The card cannot be read: its mark.
     Flawed(u8),
     // There is no such card.

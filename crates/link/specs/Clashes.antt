@@ -3,9 +3,9 @@ use Rattle.std.specs.Prelude.{ℕ, Bool, true, false, not, ◌&&◌, List, Some,
 use Rattle.std.specs.List.{slice_get}
 use Rattle.card.specs.declared.name.Name.{Name}
 use Rattle.table.specs.declared.Row.{Row}
-use Rattle.deck.specs.declared.content.Item.{Item}
-use Rattle.deck.specs.declared.content.ItemKind.{ItemKind}
-use Rattle.deck.specs.declared.content.ItemKind.TheVariants as item
+use Rattle.card.specs.declared.content.Item.{Item}
+use Rattle.card.specs.declared.content.Item.TheVariants as item
+use Rattle.deck.specs.declared.rules.OnCard.{OnCard}
 use Rattle.link.specs.declared.lines.Line.{Line}
 use Rattle.link.specs.declared.lines.LineName.{LineName}
 use Rattle.link.specs.declared.lines.LineState.{LineState}
@@ -50,33 +50,30 @@ abbrev pub kept : Lines → Option Name → Bool
 kept rows None = true
 kept rows (Some name) = not (is_section (state_of name rows))
 
-abbrev pub kept_kind : Lines → ItemKind → Bool
-kept_kind rows (item.Section name address size) = kept rows name
-kept_kind rows (item.Label name address section) = false
-kept_kind rows (item.Reference name strength) = false
-kept_kind rows (item.Common name size) = false
+abbrev pub kept_item : Lines → Item ℕ → Bool
+kept_item rows (item.Section name address size) = kept rows name
+kept_item rows (item.Label name address section) = false
+kept_item rows (item.Reference name strength) = false
+kept_item rows (item.Common name size) = false
 
-abbrev pub kept_item : Lines → Option Item → Bool
-kept_item rows None = false
-kept_item rows (Some x) = kept_kind rows x.kind
+abbrev pub kept_if : Lines → Option (OnCard (Item ℕ)) → Bool
+kept_if rows None = false
+kept_if rows (Some x) = kept_item rows x.what
 
 -- the item at a place is a section that is kept
-abbrev pub kept_at : Lines → List Item → ℕ → Bool
-kept_at rows items place = kept_item rows (slice_get items place)
+abbrev pub kept_at : Lines → List (OnCard (Item ℕ)) → ℕ → Bool
+kept_at rows items place = kept_if rows (slice_get items place)
 
 abbrev pub named_label : Lines → Option Name → Bool
 named_label rows None = false
 named_label rows (Some name) = is_label (state_of name rows)
 
 -- the label of a kept section is defined already, or a section or common is a label already
-abbrev pub label_clash_kind : Lines → List Item → ItemKind → Bool
-label_clash_kind rows items (item.Section name address size) = named_label rows name
-label_clash_kind rows items (item.Label name address section) = kept_at rows items section && is_defined (state_of name rows)
-label_clash_kind rows items (item.Reference name strength) = false
-label_clash_kind rows items (item.Common name size) = is_label (state_of name rows)
-
-abbrev pub label_clash : Lines → List Item → Item → Bool
-label_clash rows items x = label_clash_kind rows items x.kind
+abbrev pub label_clash : Lines → List (OnCard (Item ℕ)) → Item ℕ → Bool
+label_clash rows items (item.Section name address size) = named_label rows name
+label_clash rows items (item.Label name address section) = kept_at rows items section && is_defined (state_of name rows)
+label_clash rows items (item.Reference name strength) = false
+label_clash rows items (item.Common name size) = is_label (state_of name rows)
 
 -- a length passes that of a section
 abbrev pub passes_section : ℕ → Option LineState → Bool
@@ -99,11 +96,8 @@ named_below rows n None = false
 named_below rows n (Some name) = below_common n (state_of name rows)
 
 -- a common is longer than the section of its name, or a section is shorter than the common whose line it takes over
-abbrev pub common_too_long_kind : Lines → ItemKind → Bool
-common_too_long_kind rows (item.Section name address size) = named_below rows size name
-common_too_long_kind rows (item.Label name address section) = false
-common_too_long_kind rows (item.Reference name strength) = false
-common_too_long_kind rows (item.Common name size) = passes_section size (state_of name rows)
-
-abbrev pub common_too_long : Lines → Item → Bool
-common_too_long rows x = common_too_long_kind rows x.kind
+abbrev pub common_too_long : Lines → Item ℕ → Bool
+common_too_long rows (item.Section name address size) = named_below rows size name
+common_too_long rows (item.Label name address section) = false
+common_too_long rows (item.Reference name strength) = false
+common_too_long rows (item.Common name size) = passes_section size (state_of name rows)

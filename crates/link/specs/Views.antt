@@ -25,8 +25,8 @@ abbrev pub room_view : Room → RoomView
 room_view r = record {
   lines = lines r.dictionary;
   decks = r.taken.decks;
-  runs = vec_items r.taken.runs;
-  relocations = vec_items r.taken.relocations;
+  runs = vec_items r.taken.runs.all;
+  relocations = vec_items r.taken.relocations.all;
 }
 
 -- a room that holds nothing

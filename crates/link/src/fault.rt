@@ -1,12 +1,12 @@
 // Why a link says no.
 ghost use Rattle.std.specs.Prelude.{◌≡◌};
 ghost use Rattle.link.specs.declared.fault.LinkFault.TheVariants.{Deck};
-ghost use Rattle.link.specs.Told.{told_link, no_deck};
+ghost use Rattle.link.specs.Told.{told_link};
 
-use card::{CardAt, Layer, Name, Refusal};
+use card::{CardAt, Layer, Refusal};
 use deck::DeckFault;
 
-#[derive(Clone, Copy)]
+#[derive(Clone, Copy, PartialEq, Eq, Debug)]
 pub enum LinkFault {
     Deck(DeckFault),
     BadArea,
@@ -21,35 +21,24 @@ pub enum LinkFault {
     BadEntry,
 }
 
-impl LinkFault {
-    pub fn refusal(self) -> Refusal
-        ensures { result ≡ told_link self }
-    {
-        match self {
-            LinkFault::Deck(fault) => fault.refusal(),
-            LinkFault::BadArea => no_deck(9),
+impl From<LinkFault> for Refusal {
+    ghost from_gives = { λ fault told. told ≡ told_link fault };
+
+    fn from(fault: LinkFault) -> Refusal {
+        match fault {
+            LinkFault::Deck(fault) => Refusal::from(fault),
+            LinkFault::BadArea => Refusal::without_deck(Layer::Link, 9),
             LinkFault::LabelClash(at) => at.refused(Layer::Link, 23),
             LinkFault::CommonTooLong(at) => at.refused(Layer::Link, 24),
             LinkFault::OutsideArea(at) => at.refused(Layer::Link, 25),
-            LinkFault::TooMany { deck } => CardAt { deck, card: 0 }.refused(Layer::Link, 26),
-            LinkFault::BlankEntry => no_deck(27),
-            LinkFault::OpenName => no_deck(28),
-            LinkFault::NoSection => no_deck(29),
-            LinkFault::CommonOutsideArea => no_deck(30),
-            LinkFault::BadEntry => no_deck(31),
+            LinkFault::TooMany { deck } => Refusal::of_deck(Layer::Link, 26, deck),
+            LinkFault::BlankEntry => Refusal::without_deck(Layer::Link, 27),
+            LinkFault::OpenName => Refusal::without_deck(Layer::Link, 28),
+            LinkFault::NoSection => Refusal::without_deck(Layer::Link, 29),
+            LinkFault::CommonOutsideArea => Refusal::without_deck(Layer::Link, 30),
+            LinkFault::BadEntry => Refusal::without_deck(Layer::Link, 31),
         }
     }
-}
-
-// The rule of that number, broken outside any deck: the name is blank.
-fn no_deck(number: u8) -> Refusal
-    ensures { result ≡ no_deck number }
-{
-    CardAt {
-        deck: Name::blank().number(),
-        card: 0,
-    }
-    .refused(Layer::Link, number)
 }
 
 impl From<DeckFault> for LinkFault {

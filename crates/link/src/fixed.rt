@@ -3,14 +3,16 @@ ghost use Rattle.std.specs.Prelude.{◌≡◌};
 
 use crate::fault::LinkFault;
 use crate::gathering::{Link, Progress, Start};
+use crate::layout::Free;
 use crate::limits::Area;
 use crate::lines::{Dictionary, LineState};
+use crate::map::fill_map;
 use crate::maplines::MapLine;
 use crate::reserve::Room;
 use card::Name;
 
 // Whether fix permits strong names that are open.
-#[derive(Clone, Copy)]
+#[derive(Clone, Copy, PartialEq, Eq, Debug)]
 pub enum OpenNames {
     Refused,
     Permitted,
@@ -43,12 +45,7 @@ fn name_address(dictionary: &Dictionary, name: Name) -> Option<u32> {
 fn start_address(dictionary: &Dictionary, start: Start) -> Option<u32> {
     match start {
         Start::Named(name) => name_address(dictionary, name),
-        Start::Within { address, end } => {
-            if address > end {
-                return None;
-            }
-            Some(address)
-        }
+        Start::Within { address, end } => (address <= end).then_some(address),
     }
 }
 
@@ -64,31 +61,33 @@ fn entry_address(dictionary: &Dictionary, progress: Progress, first: u32) -> Opt
 }
 
 impl<L> Link<L> {
+    // What is free of the area behind the sections.
+    pub(crate) fn free(&self) -> Free {
+        Free {
+            next: self.progress.next,
+            limit: self.area.end(),
+        }
+    }
+
     // Works out what fix needs, or why it refuses.
     fn settle(&self, open: OpenNames) -> Result<Settled, LinkFault> {
         let dictionary = &self.room.dictionary;
         let progress = self.progress;
-        if let (OpenNames::Refused, true) = (open, dictionary.has_open()) {
+        if open == OpenNames::Refused && dictionary.has_open() {
             return Err(LinkFault::OpenName);
         }
-        let Some(first) = progress.first else {
-            return Err(LinkFault::NoSection);
-        };
-        let Some(end) = dictionary.image_end(progress.next, self.area.end(), progress.end) else {
-            return Err(LinkFault::CommonOutsideArea);
-        };
-        let Some(entry) = entry_address(dictionary, progress, first) else {
-            return Err(LinkFault::BadEntry);
-        };
+        let first = progress.first.ok_or(LinkFault::NoSection)?;
+        let end = dictionary
+            .image_end(self.free(), progress.end)
+            .ok_or(LinkFault::CommonOutsideArea)?;
+        let entry = entry_address(dictionary, progress, first).ok_or(LinkFault::BadEntry)?;
         Ok(Settled { entry, end })
     }
 
     // Whether the link can be fixed; changes nothing.
     pub fn check(&self, open: OpenNames) -> Result<(), LinkFault> {
-        match self.settle(open) {
-            Ok(_) => Ok(()),
-            Err(fault) => Err(fault),
-        }
+        self.settle(open)?;
+        Ok(())
     }
 
     // Moves the link into a program, also where the check refuses it.
@@ -96,15 +95,16 @@ impl<L> Link<L> {
         ensures { (result.library ≡ self.library) × (result.area ≡ self.area) }
     {
         let outcome = self.settle(open);
+        let free = self.free();
         let Link {
             library,
             area,
             room,
-            progress,
+            progress: _,
         } = self;
         let mut room = room;
         if outcome.is_ok() {
-            room.map.fill(&room.dictionary, progress.next, area.end());
+            fill_map(&mut room.map, &room.dictionary, free);
         }
         Program {
             library,
@@ -118,18 +118,12 @@ impl<L> Link<L> {
 impl<L> Program<L> {
     // Line n of the map, from 1.
     pub fn line(&self, n: usize) -> Option<MapLine> {
-        if n == 0 {
-            return None;
-        }
-        self.room.map.all.get(n - 1).copied()
+        self.room.map.all.get(n.checked_sub(1)?).copied()
     }
 
     // The address of the entry, or why the program was refused.
     pub fn entry(&self) -> Result<u32, LinkFault> {
-        match self.outcome {
-            Ok(settled) => Ok(settled.entry),
-            Err(fault) => Err(fault),
-        }
+        Ok(self.outcome?.entry)
     }
 
     // Ends the program, and gives the library and the room back.

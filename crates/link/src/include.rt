@@ -4,14 +4,16 @@ ghost use Rattle.link.specs.Lines.{lines};
 ghost use Rattle.link.specs.Views.{room_view, empty_room, view_of, except_marks, unmarked, opened, entry_answer, chosen};
 
 use crate::clashes::{CommonsFit, LabelsApart};
+use crate::commit::set_shifts;
 use crate::fault::LinkFault;
 use crate::gathering::{Link, Progress, Start};
-use crate::homes::{Extent, Homes};
+use crate::homes::{Homes, extent_of, first_start, last_byte};
+use crate::layout::{Free, lay_out};
 use crate::limits::Area;
-use crate::lines::{Dictionary, LineName, LineState};
+use crate::lines::Dictionary;
 use crate::reserve::Room;
-use card::{CardAt, Name, Strength};
-use deck::{Entry, IdRows, Item, ItemKind, worst};
+use card::{CardAt, Entry, Item, Name};
+use deck::{IdRows, OnCard, unbroken, worst};
 use library::Library;
 use std::mem;
 use table::Count;
@@ -26,78 +28,55 @@ pub enum Called {
 }
 
 // No label clashes, and no common is longer than its section.
-fn judge_names(dictionary: &Dictionary, items: &[Item], deck: u64) -> Result<(), LinkFault> {
-    if let Some(card) = worst(&LabelsApart { dictionary, items }, items, None) {
-        return Err(LinkFault::LabelClash(CardAt { deck, card }));
-    }
-    if let Some(card) = worst(&CommonsFit { dictionary }, items, None) {
-        return Err(LinkFault::CommonTooLong(CardAt { deck, card }));
-    }
-    Ok(())
-}
-
-// Where the section of a name lies, if it is one.
-fn section_extent(dictionary: &Dictionary, name: Name) -> Option<Extent> {
-    match dictionary.line_of(name)?.state {
-        LineState::Section { address, length } => Some(Extent {
-            start: address,
-            end: address.wrapping_add(length),
-        }),
-        LineState::Label { .. } | LineState::Common { .. } | LineState::Open => None,
-    }
-}
-
-// The entry that a deck gives, carried to the kept section of its name where its own was dropped.
-fn start_of(
-    entry: Option<Entry>,
+fn judge_names(
     dictionary: &Dictionary,
+    items: &[OnCard<Item<usize>>],
+    deck: u64,
+) -> Result<(), LinkFault> {
+    let clash = worst(&LabelsApart { dictionary, items }, items, None);
+    unbroken(deck, clash).map_err(LinkFault::LabelClash)?;
+    let long = worst(&CommonsFit { dictionary }, items, None);
+    unbroken(deck, long).map_err(LinkFault::CommonTooLong)
+}
+
+// Where an address within the section at a place is, carried to the kept section of its name where its own was dropped.
+fn start_within(
+    dictionary: &Dictionary,
+    items: &[OnCard<Item<usize>>],
     homes: &Homes,
-    items: &[Item],
+    section: usize,
+    address: u32,
+) -> Option<Start> {
+    let Item::Section {
+        name,
+        address: input,
+        length: _,
+    } = items.get(section)?.what
+    else {
+        return None;
+    };
+    let extent = match extent_of(homes, section) {
+        Some(kept) => kept,
+        None => dictionary.section_of(name?)?,
+    };
+    Some(Start::Within {
+        address: extent.start.wrapping_add(address.wrapping_sub(input)),
+        end: extent.end,
+    })
+}
+
+// The entry that a deck gives.
+fn start_of(
+    entry: Option<Entry<usize>>,
+    dictionary: &Dictionary,
+    items: &[OnCard<Item<usize>>],
+    homes: &Homes,
 ) -> Option<Start> {
     match entry? {
         Entry::Named(name) => Some(Start::Named(name)),
-        Entry::Address { section, address } => match items.get(section)?.kind {
-            ItemKind::Section {
-                name,
-                address: input,
-                length: _,
-            } => {
-                let extent = match homes.home(section) {
-                    Some(home) => home,
-                    None => section_extent(dictionary, name?)?,
-                };
-                Some(Start::Within {
-                    address: extent.start.wrapping_add(address.wrapping_sub(input)),
-                    end: extent.end,
-                })
-            }
-            ItemKind::Label { .. } | ItemKind::Reference { .. } | ItemKind::Common { .. } => None,
-        },
-    }
-}
-
-impl Homes {
-    // Where the first kept section lies.
-    fn first(&self) -> Option<u32> {
-        for home in self.all.as_slice() {
-            if let Some(extent) = home {
-                return Some(extent.start);
-            }
-        }
-        None
-    }
-
-    // The address behind the last byte of a kept section; `before` where they have none.
-    fn last_byte(&self, before: u32) -> u32 {
-        let mut end = before;
-        for home in self.all.as_slice() {
-            if let Some(extent) = home {
-                if extent.end > extent.start {
-                    end = extent.end;
-                }
-            }
-        }
-        end
+        Entry::Address { section, address } => start_within(
+            dictionary, items, homes, section, address,
+        ),
     }
 }
 
@@ -112,17 +91,14 @@ impl Room {
     }
 
     // Judges the deck that was read against the dictionary and the area, and gives the address behind its sections.
-    fn judge(&mut self, deck: u64, next: u32, limit: u32) -> Result<u32, LinkFault>
+    fn judge(&mut self, deck: u64, free: Free) -> Result<u32, LinkFault>
         ensures { room_view self.new ≡ room_view self.old }
     {
-        judge_names(&self.dictionary, self.deck.deck().items(), deck)?;
-        match self
-            .homes
-            .lay_out(self.deck.deck().items(), &self.dictionary, next, limit)
-        {
-            Ok(behind) => Ok(behind),
-            Err(card) => Err(LinkFault::OutsideArea(CardAt { deck, card })),
-        }
+        let items = self.deck.deck().items();
+        judge_names(&self.dictionary, items, deck)?;
+        lay_out(&mut self.homes, items, &self.dictionary, free).map_err(
+            |card| LinkFault::OutsideArea(CardAt { deck, card }),
+        )
     }
 
     // Drafts the dictionary with the deck's lines; refused where they would be over 1,024.
@@ -130,10 +106,9 @@ impl Room {
         ensures { room_view self.new ≡ room_view self.old }
     {
         self.draft.copy_from(&self.dictionary);
-        match self.draft.enter_all(self.deck.deck().items(), &self.homes) {
-            Ok(()) => Ok(()),
-            Err(_) => Err(LinkFault::TooMany { deck }),
-        }
+        self.draft
+            .enter_all(self.deck.deck().items(), &self.homes)
+            .map_err(|_| LinkFault::TooMany { deck })
     }
 
     // Takes the deck over: from here on nothing refuses it.
@@ -141,27 +116,23 @@ impl Room {
         requires { self.old.taken.decks < 256 }
     {
         mem::swap(&mut self.dictionary, &mut self.draft);
-        self.shifts
-            .fill(&self.dictionary, &self.homes, self.deck.deck().items());
-        self.taken.take(self.deck.deck(), &self.homes, &self.shifts);
+        let deck = self.deck.deck();
+        let homes = self.homes.all.as_mut_slice();
+        set_shifts(homes, &self.dictionary, deck.items());
+        self.taken.take(deck, &self.homes);
     }
 
     // How far the link has come with the deck that was taken last.
     fn advanced(&self, before: Progress, next: u32) -> Progress {
-        let first = match before.first {
-            Some(first) => Some(first),
-            None => self.homes.first(),
-        };
         let deck = self.deck.deck();
-        let start = match before.start {
-            Some(start) => Some(start),
-            None => start_of(deck.entry(), &self.dictionary, &self.homes, deck.items()),
-        };
+        let homes = &self.homes;
         Progress {
             next,
-            end: self.homes.last_byte(before.end),
-            first,
-            start,
+            end: last_byte(homes, before.end),
+            first: before.first.or(first_start(homes)),
+            start: before.start.or_else(|| {
+                start_of(deck.entry(), &self.dictionary, deck.items(), homes)
+            }),
             chosen: before.chosen,
         }
     }
@@ -171,13 +142,10 @@ impl Dictionary {
     // The first open strong name without a mark, and its line's place.
     fn next_call(&self) -> Option<(usize, Name)> {
         for (place, row) in self.all().iter().enumerate() {
-            let line = row.value;
-            if let (LineName::Named(name), LineState::Open, Strength::Strong, false) = (
-                row.key,
-                line.state,
-                line.strength,
-                line.marked,
-            ) {
+            if let Some(name) = row.key.name
+                && row.value.is_wanted()
+                && !row.value.marked
+            {
                 return Some((place, name));
             }
         }
@@ -225,7 +193,8 @@ impl<L: Library> Link<L> {
         ensures library { self.new.library ≡ self.old.library }
         ensures area { self.new.area ≡ self.old.area }
     {
-        let next = self.room.judge(deck, self.progress.next, self.area.end())?;
+        let free = self.free();
+        let next = self.room.judge(deck, free)?;
         self.room.redraft(deck)?;
         if self.room.taken.decks >= 256 {
             return Err(LinkFault::TooMany { deck });

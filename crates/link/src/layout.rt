@@ -1,70 +1,67 @@
 // Where the sections of a deck go.
 ghost use Rattle.std.specs.Prelude.{◌≡◌, ◌≤◌, length};
-ghost use Rattle.link.specs.Layout.{fitted};
+ghost use Rattle.link.specs.Layout.{fitted, left};
 
-use crate::homes::{Extent, Homes};
+use crate::homes::{Extent, Home, Homes};
 use crate::lines::Dictionary;
-use deck::{Item, ItemKind};
+use crate::taken::Shift;
+use card::Item;
+use deck::OnCard;
 
-// The next multiple of 8 and so many bytes from there on; none where they end past a limit.
-pub(crate) fn fit(next: u32, length: u32, limit: u32) -> Option<Extent>
-    ensures { result ≡ fitted next length limit }
-{
-    let start = (next as u64 + 7) / 8 * 8;
-    let end = start + length as u64;
-    if end > limit as u64 {
-        return None;
-    }
-    Some(Extent {
-        start: start as u32,
-        end: end as u32,
-    })
+// What is free of an area: the bytes from one address up to the area's end.
+#[derive(Clone, Copy)]
+pub(crate) struct Free {
+    pub(crate) next: u32,
+    pub(crate) limit: u32,
 }
 
-impl Homes {
-    // Lays the kept sections out in item order behind `next`; gives the address behind the last,
-    // or the card of the first that ends past the limit.
-    pub(crate) fn lay_out(
-        &mut self,
-        items: &[Item],
-        dictionary: &Dictionary,
-        next: u32,
-        limit: u32,
-    ) -> Result<u32, u16>
-        requires { length items.now ≤ 1536 }
+impl Free {
+    // Takes so many bytes from the next multiple of 8 on; none where they end past the limit.
+    pub(crate) fn take(&mut self, length: u32) -> Option<Extent>
+        ensures answer { result ≡ fitted self.old.next length self.old.limit }
+        ensures free { self.new ≡ left self.old (fitted self.old.next length self.old.limit) }
     {
-        let mut next = next;
-        self.all.clear();
-        for item in items {
-            let home = match item.kind {
-                ItemKind::Section {
-                    name,
-                    address: _,
-                    length,
-                } => {
-                    if dictionary.keeps(name) {
-                        let Some(extent) = fit(next, length, limit) else {
-                            return Err(item.card);
-                        };
-                        next = extent.end;
-                        Some(extent)
-                    } else {
-                        None
-                    }
-                }
-                ItemKind::Label { .. } | ItemKind::Reference { .. } | ItemKind::Common { .. } =>
-                    None,
-            };
-            self.all.push_reserved(home);
+        let start = (self.next as u64 + 7) / 8 * 8;
+        let end = start + length as u64;
+        if end > self.limit as u64 {
+            return None;
         }
-        Ok(next)
+        self.next = end as u32;
+        Some(Extent {
+            start: start as u32,
+            end: end as u32,
+        })
     }
+}
 
-    // Where the item at a place is kept, if it is a section that is.
-    pub(crate) fn home(&self, place: usize) -> Option<Extent> {
-        match self.all.get(place) {
-            Some(home) => *home,
-            None => None,
+// Lays the kept sections out in item order; gives the address behind the last, or the card of the first that ends past the limit.
+pub(crate) fn lay_out(
+    homes: &mut Homes,
+    items: &[OnCard<Item<usize>>],
+    dictionary: &Dictionary,
+    free: Free,
+) -> Result<u32, u16>
+    requires { length items.now ≤ 1536 }
+{
+    let mut free = free;
+    homes.all.clear();
+    for item in items {
+        let mut home = Home {
+            extent: None,
+            shift: Shift::Known(0),
+        };
+        if let Item::Section {
+            name,
+            address,
+            length,
+        } = item.what
+            && dictionary.keeps(name)
+        {
+            let extent = free.take(length).ok_or(item.card)?;
+            home.extent = Some(extent);
+            home.shift = Shift::Known(extent.start.wrapping_sub(address));
         }
+        homes.all.push_reserved(home);
     }
+    Ok(free.next)
 }

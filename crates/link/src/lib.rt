@@ -17,7 +17,6 @@ mod lines;
 mod map;
 mod maplines;
 mod reserve;
-mod shifts;
 mod taken;
 
 pub use fault::LinkFault;

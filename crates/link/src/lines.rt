@@ -5,10 +5,9 @@ use card::{Name, Strength};
 use table::{Count, Row};
 
 // What a line is found by. A private section's line has no name, and is never looked for.
-#[derive(Clone, Copy)]
-pub enum LineName {
-    Named(Name),
-    Private,
+#[derive(Clone, Copy, PartialEq, Eq)]
+pub struct LineName {
+    pub name: Option<Name>,
 }
 
 // What is known of a line's name: defined as a section, a label or a common, or open.
@@ -26,6 +25,13 @@ pub struct Line {
     pub state: LineState,
     pub strength: Strength,
     pub marked: bool,
+}
+
+impl Line {
+    // Whether a strong reference names it, and nothing defines it.
+    pub(crate) fn is_wanted(self) -> bool {
+        self.strength == Strength::Strong && matches!(self.state, LineState::Open)
+    }
 }
 
 // One line a name in order of first appearance, and one for every private section; at most 1,024.

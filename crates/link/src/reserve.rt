@@ -2,11 +2,10 @@
 use crate::homes::Homes;
 use crate::lines::Dictionary;
 use crate::maplines::MapLines;
-use crate::shifts::Shifts;
 use crate::taken::Taken;
 use deck::DeckRoom;
+use reserved::Reserved;
 use std::alloc::{AllocError, Global};
-use table::Count;
 
 // Room for all that a link can ever need: 1,024 lines and as many for a draft, one deck of 512 cards, and the texts and
 // constants of 256 decks. Making it is the only call that can want for memory.
@@ -16,7 +15,6 @@ pub struct Room {
     pub(crate) draft: Dictionary,
     pub(crate) deck: DeckRoom,
     pub(crate) homes: Homes,
-    pub(crate) shifts: Shifts,
     pub(crate) taken: Taken,
     pub(crate) map: MapLines,
 }
@@ -27,10 +25,9 @@ impl Room {
             dictionary: Dictionary::new(heap)?,
             draft: Dictionary::new(heap)?,
             deck: DeckRoom::new(heap)?,
-            homes: Homes::new(heap)?,
-            shifts: Shifts::new(heap)?,
+            homes: Reserved::new(heap)?,
             taken: Taken::new(heap)?,
-            map: MapLines::new(heap)?,
+            map: Reserved::new(heap)?,
         })
     }
 }

@@ -60,11 +60,11 @@ fn converse(rt: &HostRuntime, opened: Session) -> (Session, io::Result<()>) {
 fn run(rt: &HostRuntime, bytes: Vec<u8>) -> io::Result<()> {
     let tray = match open_tray(bytes) {
         Ok(tray) => tray,
-        Err(fault) => return print_refused(rt, fault.refusal()),
+        Err(fault) => return print_refused(rt, fault),
     };
     let area = match Area::new(Some(ORIGIN), SIZE) {
         Ok(area) => area,
-        Err(fault) => return print_refused(rt, fault.refusal()),
+        Err(fault) => return print_refused(rt, fault),
     };
     let room = Room::new(rt.alloc())?;
     let (session, done) = converse(rt, Session::Gathering(Link::open(tray, area, room)));

@@ -1,15 +1,17 @@
 // A session: a link that gathers decks as lines ask, and then the program that it was fixed into.
-use card::{Name, Refusal};
+use card::Refusal;
 use console::{Command, command_of, entry_text, refused_text, row_text, what_text};
 use deck::IdRows;
 use library::Tray;
-use link::{Called, Link, OpenNames, Program, Room};
+use link::{Called, Link, LinkFault, OpenNames, Program, Room};
 use std::io;
 use std::io::Write;
 use table::{Count, Row};
 
 // More calls than a link can answer by anything but none left.
 const MAX_CALLS: u16 = 1025;
+
+const MAX_LINES: usize = 1024;
 
 // The table of a deck's IDs, lent to each include and call.
 #[derive(Clone, Copy)]
@@ -38,27 +40,16 @@ fn print_line(rt: &HostRuntime, text: &[u8]) -> io::Result<()> {
     rt.stdout().write_all(b"\n")
 }
 
-pub fn print_refused(rt: &HostRuntime, refusal: Refusal) -> io::Result<()> {
-    print_line(rt, &refused_text(refusal.number))
+pub fn print_refused(rt: &HostRuntime, fault: impl Into<Refusal>) -> io::Result<()> {
+    print_line(rt, &refused_text(fault.into().number))
 }
 
-fn include(
-    rt: &HostRuntime,
-    link: &mut Link<Tray>,
-    ids: &mut IdTable,
-    name: Name,
-) -> io::Result<()> {
-    match link.include(name, &mut ids.rows, &mut ids.count) {
-        Ok(()) => Ok(()),
-        Err(fault) => print_refused(rt, fault.refusal()),
+// Prints the refusal of a call of the link, if it was refused.
+fn report(rt: &HostRuntime, answer: Result<(), LinkFault>) -> io::Result<()> {
+    if let Err(fault) = answer {
+        print_refused(rt, fault)?;
     }
-}
-
-fn choose_entry(rt: &HostRuntime, link: &mut Link<Tray>, name: Name) -> io::Result<()> {
-    match link.entry(name) {
-        Ok(()) => Ok(()),
-        Err(fault) => print_refused(rt, fault.refusal()),
-    }
+    Ok(())
 }
 
 // Calls until none is left, and prints each refusal.
@@ -67,7 +58,7 @@ fn call_all(rt: &HostRuntime, link: &mut Link<Tray>, ids: &mut IdTable) -> io::R
         match link.call(&mut ids.rows, &mut ids.count) {
             Ok(Called::NoneLeft) => return Ok(()),
             Ok(Called::Taken) => {}
-            Err(fault) => print_refused(rt, fault.refusal())?,
+            Err(fault) => print_refused(rt, fault)?,
         }
     }
     Ok(())
@@ -77,25 +68,23 @@ fn call_all(rt: &HostRuntime, link: &mut Link<Tray>, ids: &mut IdTable) -> io::R
 fn fix_link(rt: &HostRuntime, link: Link<Tray>, open: OpenNames) -> (Session, io::Result<()>) {
     match link.check(open) {
         Ok(()) => (Session::Fixed(link.fix(open)), Ok(())),
-        Err(fault) => (Session::Gathering(link), print_refused(rt, fault.refusal())),
+        Err(fault) => (Session::Gathering(link), print_refused(rt, fault)),
     }
 }
 
 // The map: a row a line, and the entry.
 fn print_map(rt: &HostRuntime, program: &Program<Tray>) -> io::Result<()> {
-    for n in 1..1025usize {
-        let Some(line) = program.line(n) else {
-            break;
-        };
+    for line in (1..=MAX_LINES).map_while(|n| program.line(n)) {
         print_line(rt, &row_text(line))?;
     }
     match program.entry() {
         Ok(address) => print_line(rt, &entry_text(address)),
-        Err(fault) => print_refused(rt, fault.refusal()),
+        Err(fault) => print_refused(rt, fault),
     }
 }
 
-// Answers a line while the link gathers.
+// Answers a line while the link gathers. Commands are told apart by a match, as their letters are: there are six, and closures
+// would each have to hand the link on.
 fn gather(
     rt: &HostRuntime,
     link: Link<Tray>,
@@ -106,8 +95,11 @@ fn gather(
     let done = match command {
         Some(Command::Fix) => return fix_link(rt, link, OpenNames::Refused),
         Some(Command::FixOpen) => return fix_link(rt, link, OpenNames::Permitted),
-        Some(Command::Include(name)) => include(rt, &mut link, ids, name),
-        Some(Command::Entry(name)) => choose_entry(rt, &mut link, name),
+        Some(Command::Include(name)) => report(
+            rt,
+            link.include(name, &mut ids.rows, &mut ids.count),
+        ),
+        Some(Command::Entry(name)) => report(rt, link.entry(name)),
         Some(Command::Calls) => call_all(rt, &mut link, ids),
         Some(Command::Map) | None => print_line(rt, &what_text()),
     };

@@ -1,5 +1,7 @@
 -- What a table holds, and what it answers.
-use Rattle.std.specs.Prelude.{ℕ, ◌+◌, Bool, cond, List, [], ◌∷◌, ◌++◌, length, take, Some, None, Ok, Err, Option, Result, nat_lt, slice_set}
+use Rattle.std.specs.Prelude.{ℕ, ◌+◌, Bool, cond, List, [], ◌∷◌, ◌++◌, length, take, Ok, Err, Option, Result, nat_lt, slice_set, position}
+use Rattle.std.specs.List.{find}
+use Rattle.std.specs.Option.{option_map}
 use Rattle.table.specs.declared.Count.{Count}
 use Rattle.table.specs.declared.Full.{Full}
 use Rattle.table.specs.declared.Row.{Row}
@@ -8,15 +10,17 @@ use Rattle.table.specs.declared.Row.{Row}
 abbrev pub held : {K V : Type 0} → Count → List (Row K V) → List (Row K V)
 held count rows = take count.rows rows
 
--- the place of the first row under the key, counted from i
-abbrev pub first_at : {K V : Type 0} → (K → K → Bool) → K → ℕ → List (Row K V) → Option ℕ
-first_at same key i [] = None
-first_at same key i (r ∷ rs) = cond (same r.key key) (Some i) (first_at same key (i + 1) rs)
+-- a row stands under the key
+abbrev pub under : {K V : Type 0} → (K → K → Bool) → K → Row K V → Bool
+under same key r = same r.key key
+
+-- the place of the first row under the key, counted from 0
+abbrev pub first_at : {K V : Type 0} → (K → K → Bool) → K → List (Row K V) → Option ℕ
+first_at same key rows = position (under same key) rows
 
 -- the value of the first row under the key
 abbrev pub value_under : {K V : Type 0} → (K → K → Bool) → K → List (Row K V) → Option V
-value_under same key [] = None
-value_under same key (r ∷ rs) = cond (same r.key key) (Some r.value) (value_under same key rs)
+value_under same key rows = option_map (λ r. r.value) (find (under same key) rows)
 
 -- whether a row is free
 abbrev pub room : {K V : Type 0} → Count → List (Row K V) → Bool

@@ -9,7 +9,7 @@ ghost use Rattle.std.proofs.lemmas.Slice.Eq.{bytes_eq-Decides};
 
 // What a row can be found by.
 pub trait Key: Copy {
-    // Whether two keys are one.
+    // Whether two keys are one. Kept beside `Eq`, which promises an equivalence only: here equal keys are one and the same.
     ghost same: { Self → Self → Bool };
 
     fn equals(self, other: Self) -> bool
@@ -44,7 +44,8 @@ pub struct Row<K, V> {
     pub value: V,
 }
 
-// How many of the rows are in use, the first ones.
+// How many of the rows are in use, the first ones. Rows and count stay two things, and are lent as two: a caller can then guard the
+// count alone.
 #[derive(Clone, Copy)]
 pub struct Count {
     pub rows: usize,
@@ -54,37 +55,30 @@ pub struct Count {
 #[derive(Clone, Copy)]
 pub struct Full;
 
-// How many rows are held: a count past the rows reads as all of them.
-fn held_len<K: Copy, V: Copy>(rows: &[Row<K, V>], count: &Count) -> usize
-    ensures value { result ≡ length (held count.now rows.now) }
-    ensures within { result ≤ length rows.now }
+// The rows that are held: a count past the rows reads as all of them.
+pub fn held<'a, K: Copy, V: Copy>(rows: &'a [Row<K, V>], count: &Count) -> &'a [Row<K, V>]
+    ensures value { result.now ≡ held count.now rows.now }
+    ensures within { length result.now ≤ length rows.now }
 {
-    count.rows.min(rows.len())
+    &rows[..count.rows.min(rows.len())]
 }
 
 // The place of the first held row under the key.
 pub fn find<K: Key, V: Copy>(rows: &[Row<K, V>], count: &Count, key: K) -> Option<usize>
-    ensures answer { result ≡ first_at K.Key.same key 0 (held count.now rows.now) }
+    ensures answer { result ≡ first_at K.Key.same key (held count.now rows.now) }
     ensures within { IfSome result (λ i. i < length rows.now) }
 {
-    for i in 0..held_len(rows, count) {
-        if rows[i].key.equals(key) {
-            return Some(i);
-        }
-    }
-    None
+    held(rows, count).iter().position(|row| row.key.equals(key))
 }
 
 // The value of the first held row under the key.
 pub fn lookup<K: Key, V: Copy>(rows: &[Row<K, V>], count: &Count, key: K) -> Option<V>
     ensures { result ≡ value_under K.Key.same key (held count.now rows.now) }
 {
-    for row in &rows[0..held_len(rows, count)] {
-        if row.key.equals(key) {
-            return Some(row.value);
-        }
-    }
-    None
+    held(rows, count)
+        .iter()
+        .find(|row| row.key.equals(key))
+        .map(|row| row.value)
 }
 
 // Puts a row behind the held ones and tells its place; changes nothing where no row is free.

@@ -3,40 +3,21 @@ use crate::names::name;
 use card::{Layer, Refusal};
 use deck::IdRows;
 use library::{Library, Tray};
-use link::{Area, Called, Link, LinkFault, MapKind, OpenNames, Program, Room};
+use link::{Area, Called, Link, LinkFault, MapKind, MapLine, OpenNames, Program, Room};
 use std::alloc::{AllocError, Global};
 use std::process::Abort;
 use std::test::Fail;
 use table::{Count, Row};
-
-// What a refusal tells.
-#[derive(Clone, Copy, PartialEq, Eq, Debug)]
-pub(crate) struct Told {
-    number: u8,
-    deck: u64,
-    card: u16,
-    layer: &'static str,
-    mark: Option<u8>,
-}
 
 // What a call of the link answers.
 #[derive(Clone, Copy, PartialEq, Eq, Debug)]
 enum Answer {
     Done,
     NoneLeft,
-    Refused(Told),
+    Refused(Refusal),
 }
 
-// A line of the map.
-#[derive(Clone, Copy, PartialEq, Eq, Debug)]
-struct Shown {
-    name: u64,
-    kind: &'static str,
-    address: u32,
-    length: u32,
-}
-
-// A call of the link.
+// A call of the link. Steps are values and no closures, since they stand in constant tables of cases.
 #[derive(Clone, Copy)]
 pub(crate) enum Step {
     Include(&'static str),
@@ -56,7 +37,7 @@ pub(crate) enum Expected {
 }
 
 // Name, kind, address and length of a line of the map.
-pub(crate) type MapRow = (&'static str, &'static str, u32, u32);
+pub(crate) type MapRow = (&'static str, MapKind, u32, u32);
 
 // The steps of a link, what fix gives, an entry or the number of a refusal, and the map.
 #[derive(Clone, Copy)]
@@ -71,6 +52,24 @@ pub(crate) struct Plan<'a> {
     pub(crate) map: Option<&'static [MapRow]>,
 }
 
+impl<'a> Plan<'a> {
+    // Steps alone: neither what fix gives nor the map is asked.
+    pub(crate) fn of_steps(
+        why: &'static str,
+        size: u32,
+        steps: &'a [(Step, Expected)],
+    ) -> Plan<'a> {
+        Plan {
+            why,
+            size,
+            steps,
+            open: OpenNames::Refused,
+            fixed: None,
+            map: None,
+        }
+    }
+}
+
 // The memory that every link uses again.
 #[derive(Drop)]
 pub(crate) struct Bench {
@@ -80,40 +79,20 @@ pub(crate) struct Bench {
     count: Count,
 }
 
-fn layer_name(layer: Layer) -> &'static str {
-    match layer {
-        Layer::Library => "library",
-        Layer::Card => "card",
-        Layer::Deck => "deck",
-        Layer::Link => "link",
-        Layer::Board => "board",
-    }
-}
-
 // The layer that a rule belongs to.
-fn layer_of(number: u8) -> &'static str {
+fn layer_of(number: u8) -> Layer {
     match number {
-        1..=8 | 10 | 11 => "library",
-        12..=17 => "card",
-        18..=22 => "deck",
-        9 | 23..=31 => "link",
-        _ => "board",
-    }
-}
-
-pub(crate) fn told_by(refusal: Refusal) -> Told {
-    Told {
-        number: refusal.number,
-        deck: refusal.deck,
-        card: refusal.card,
-        layer: layer_name(refusal.layer),
-        mark: refusal.mark,
+        1..=8 | 10 | 11 => Layer::Library,
+        12..=17 => Layer::Card,
+        18..=22 => Layer::Deck,
+        9 | 23..=31 => Layer::Link,
+        _ => Layer::Board,
     }
 }
 
 // What the rule of that number has to tell of a card of a deck.
-pub(crate) fn telling(number: u8, deck: &str, card: u16) -> Told {
-    Told {
+pub(crate) fn telling(number: u8, deck: &str, card: u16) -> Refusal {
+    Refusal {
         number,
         deck: name(deck).number(),
         card,
@@ -127,43 +106,21 @@ fn expected_answer(expected: Expected) -> Answer {
         Expected::Done => Answer::Done,
         Expected::NoneLeft => Answer::NoneLeft,
         Expected::Refused(number, deck, card) => Answer::Refused(telling(number, deck, card)),
-        Expected::Flawed(deck, card, mark) => Answer::Refused(Told {
+        Expected::Flawed(deck, card, mark) => Answer::Refused(Refusal {
             mark: Some(mark),
             ..telling(11, deck, card)
         }),
     }
 }
 
-fn kind_name(kind: MapKind) -> &'static str {
-    match kind {
-        MapKind::Section => "SD",
-        MapKind::Private => "PC",
-        MapKind::Label => "LR",
-        MapKind::Common => "CM",
-        MapKind::Strong => "ER",
-        MapKind::Weak => "WX",
-    }
-}
-
-fn shown_row(row: MapRow) -> Shown {
+fn line_of(row: MapRow) -> MapLine {
     let (text, kind, address, length) = row;
-    Shown {
-        name: name(text).number(),
+    MapLine {
+        name: name(text),
         kind,
         address,
         length,
     }
-}
-
-// Line n of a program's map.
-fn shown_line<L>(program: &Program<L>, n: usize) -> Option<Shown> {
-    let line = program.line(n)?;
-    Some(Shown {
-        name: line.name.number(),
-        kind: kind_name(line.kind),
-        address: line.address,
-        length: line.length,
-    })
 }
 
 fn id_rows() -> IdRows {
@@ -173,7 +130,7 @@ fn id_rows() -> IdRows {
 fn done(res: Result<(), LinkFault>) -> Answer {
     match res {
         Ok(()) => Answer::Done,
-        Err(fault) => Answer::Refused(told_by(fault.refusal())),
+        Err(fault) => Answer::Refused(Refusal::from(fault)),
     }
 }
 
@@ -181,41 +138,31 @@ fn called(res: Result<Called, LinkFault>) -> Answer {
     match res {
         Ok(Called::Taken) => Answer::Done,
         Ok(Called::NoneLeft) => Answer::NoneLeft,
-        Err(fault) => Answer::Refused(told_by(fault.refusal())),
+        Err(fault) => Answer::Refused(Refusal::from(fault)),
     }
 }
 
 fn open_tray(bytes: Vec<u8>) -> Result<Tray, Fail> {
-    match Tray::open(bytes) {
-        Ok(tray) => Ok(tray),
-        Err(_) => Err(Fail::new("the tray is refused")),
-    }
+    Tray::open(bytes).map_err(|_| Fail::new("the tray is refused"))
 }
 
 fn area_of(size: u32) -> Result<Area, Fail> {
-    match Area::new(None, size) {
-        Ok(area) => Ok(area),
-        Err(_) => Err(Fail::new("the area is refused")),
-    }
+    Area::new(None, size).map_err(|_| Fail::new("the area is refused"))
 }
 
 // The map has these lines and no other.
 fn check_map<L>(rt: &impl Abort, program: &Program<L>, rows: &[MapRow], why: &str) {
-    assert_eq!(rt; shown_line(program, 0), None, "{why}");
-    let mut n = 1usize;
-    for row in rows {
-        assert_eq!(rt; shown_line(program, n), Some(shown_row(*row)), "{why}");
-        n = n.saturating_add(1);
+    assert_eq!(rt; program.line(0), None, "{why}");
+    for (row, n) in rows.iter().zip(1usize..) {
+        assert_eq!(rt; program.line(n), Some(line_of(*row)), "{why}");
     }
-    assert_eq!(rt; shown_line(program, n), None, "{why}");
+    let behind = rows.len().saturating_add(1);
+    assert_eq!(rt; program.line(behind), None, "{why}");
 }
 
 // The entry, or what the program is refused with.
-fn entry_of<L>(program: &Program<L>) -> Result<u32, Told> {
-    match program.entry() {
-        Ok(address) => Ok(address),
-        Err(fault) => Err(told_by(fault.refusal())),
-    }
+fn entry_of<L>(program: &Program<L>) -> Result<u32, Refusal> {
+    Ok(program.entry()?)
 }
 
 // The fix gave what it should, and the check before it answered so too.

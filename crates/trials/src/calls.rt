@@ -5,6 +5,7 @@ use crate::cases::{MapCase, try_all};
 use crate::punch::Card::*;
 use crate::punch::Item::*;
 use crate::punch::{Deck, SYM};
+use link::MapKind::*;
 use std::test::Fail;
 
 const CALLS: &[MapCase] = &[
@@ -16,7 +17,7 @@ const CALLS: &[MapCase] = &[
         ],
         size: 64,
         steps: &[(Call, NoneLeft), (Include("A"), Done), (Call, NoneLeft)],
-        map: &[("A", "SD", 0, 8), ("B", "WX", 0, 0)],
+        map: &[("A", Section, 0, 8), ("B", Weak, 0, 0)],
         entry: 0,
     },
     MapCase {
@@ -38,12 +39,12 @@ const CALLS: &[MapCase] = &[
             (Call, NoneLeft),
         ],
         map: &[
-            ("A", "SD", 0, 8),
-            ("X", "SD", 16, 4),
-            ("Y", "SD", 24, 4),
-            ("B", "SD", 8, 8),
-            ("Z", "SD", 32, 4),
-            ("W", "WX", 0, 0),
+            ("A", Section, 0, 8),
+            ("X", Section, 16, 4),
+            ("Y", Section, 24, 4),
+            ("B", Section, 8, 8),
+            ("Z", Section, 32, 4),
+            ("W", Weak, 0, 0),
         ],
         entry: 0,
     },
@@ -56,7 +57,7 @@ const CALLS: &[MapCase] = &[
             (Call, Refused(10, "B", 0)),
             (Call, NoneLeft),
         ],
-        map: &[("A", "SD", 0, 8), ("B", "ER", 0, 0)],
+        map: &[("A", Section, 0, 8), ("B", Strong, 0, 0)],
         entry: 0,
     },
     MapCase {
@@ -73,7 +74,11 @@ const CALLS: &[MapCase] = &[
             (Call, Done),
             (Call, NoneLeft),
         ],
-        map: &[("A", "SD", 0, 8), ("B", "ER", 0, 0), ("C", "SD", 8, 8)],
+        map: &[
+            ("A", Section, 0, 8),
+            ("B", Strong, 0, 0),
+            ("C", Section, 8, 8),
+        ],
         entry: 0,
     },
     MapCase {
@@ -91,7 +96,7 @@ const CALLS: &[MapCase] = &[
             (Call, Refused(25, "B", 2)),
             (Call, NoneLeft),
         ],
-        map: &[("A", "SD", 0, 8), ("B", "ER", 0, 0)],
+        map: &[("A", Section, 0, 8), ("B", Strong, 0, 0)],
         entry: 0,
     },
     MapCase {
@@ -102,7 +107,11 @@ const CALLS: &[MapCase] = &[
         ],
         size: 64,
         steps: &[(Include("A"), Done), (Call, Done), (Call, NoneLeft)],
-        map: &[("A", "SD", 0, 8), ("B", "ER", 0, 0), ("C", "SD", 8, 8)],
+        map: &[
+            ("A", Section, 0, 8),
+            ("B", Strong, 0, 0),
+            ("C", Section, 8, 8),
+        ],
         entry: 0,
     },
 ];
@@ -141,10 +150,10 @@ const REFUSALS: &[MapCase] = &[
             (Include("E"), Done),
         ],
         map: &[
-            ("A", "SD", 0, 8),
-            ("X", "WX", 0, 0),
-            ("C", "CM", 16, 8),
-            ("E", "SD", 8, 8),
+            ("A", Section, 0, 8),
+            ("X", Weak, 0, 0),
+            ("C", Common, 16, 8),
+            ("E", Section, 8, 8),
         ],
         entry: 4,
     },
@@ -157,7 +166,7 @@ const REFUSALS: &[MapCase] = &[
             (Entry("L"), Done),
             (Entry(""), Refused(27, "", 0)),
         ],
-        map: &[("A", "SD", 0, 8), ("L", "LR", 6, 0)],
+        map: &[("A", Section, 0, 8), ("L", Label, 6, 0)],
         entry: 6,
     },
 ];

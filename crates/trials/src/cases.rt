@@ -65,11 +65,11 @@ fn include_steps(
     told: Option<(u8, u16)>,
 ) -> Result<Vec<(Step, Expected)>, AllocError> {
     let mut steps = Vec::new(heap);
-    let mut left = decks.len();
-    for Deck(text, _) in decks {
-        left = left.saturating_sub(1);
-        let expected = included(text, if left == 0 { told } else { None });
-        steps.push((Step::Include(text), expected))?;
+    if let Some((Deck(last, _), others)) = decks.split_last() {
+        for Deck(text, _) in others {
+            steps.push((Step::Include(text), Expected::Done))?;
+        }
+        steps.push((Step::Include(last), included(last, told)))?;
     }
     Ok(steps)
 }
@@ -78,29 +78,15 @@ impl Case for DeckCase {
     fn passes(&self, rt: &impl Abort, bench: &mut Bench) -> Result<(), Fail> {
         let mut tray = Vec::new(bench.heap);
         add_deck(&mut tray, "D", self.1)?;
-        let plan = Plan {
-            why: self.0,
-            size: 1024,
-            steps: &[(Step::Include("D"), included("D", self.2))],
-            open: OpenNames::Refused,
-            fixed: None,
-            map: None,
-        };
-        bench.link_tray(rt, tray, plan)
+        let steps = [(Step::Include("D"), included("D", self.2))];
+        bench.link_tray(rt, tray, Plan::of_steps(self.0, 1024, &steps))
     }
 }
 
 impl Case for IncludeCase {
     fn passes(&self, rt: &impl Abort, bench: &mut Bench) -> Result<(), Fail> {
         let steps = include_steps(bench.heap, self.decks, self.told)?;
-        let plan = Plan {
-            why: self.why,
-            size: self.size,
-            steps: steps.as_slice(),
-            open: OpenNames::Refused,
-            fixed: None,
-            map: None,
-        };
+        let plan = Plan::of_steps(self.why, self.size, steps.as_slice());
         bench.link_tray(rt, tray_of(bench.heap, self.decks)?, plan)
     }
 }

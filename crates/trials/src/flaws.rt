@@ -8,8 +8,7 @@ use crate::cases::{Case, try_all};
 use crate::punch::Card::Plain;
 use crate::punch::{SYM, punch};
 use card::Name;
-use library::{CardAnswer, Library};
-use link::OpenNames;
+use library::{Library, NoCard};
 use std::process::Abort;
 use std::test::Fail;
 
@@ -29,14 +28,14 @@ impl Library for Marred {
         Some(2)
     }
 
-    fn card(&mut self, _name: Name, i: u16, into: &mut [u8; 80]) -> CardAnswer {
+    fn card(&mut self, _name: Name, i: u16, into: &mut [u8; 80]) -> Result<(), NoCard> {
         match i {
             1 => {
                 *into = self.first;
-                CardAnswer::Copied
+                Ok(())
             }
-            2 => CardAnswer::Flawed(7),
-            _ => CardAnswer::Nothing,
+            2 => Err(NoCard::Flawed(7)),
+            _ => Err(NoCard::Nothing),
         }
     }
 }
@@ -50,14 +49,8 @@ impl Case for FlawCase {
         let library = Marred {
             first: punch(Plain(self.0, SYM, 0)),
         };
-        let plan = Plan {
-            why: "a library with a flawed card",
-            size: 8,
-            steps: &[(Step::Include("D"), self.1)],
-            open: OpenNames::Refused,
-            fixed: None,
-            map: None,
-        };
+        let steps = [(Step::Include("D"), self.1)];
+        let plan = Plan::of_steps("a library with a flawed card", 8, &steps);
         bench.link(rt, library, plan)
     }
 }

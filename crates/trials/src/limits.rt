@@ -6,7 +6,6 @@ use crate::cases::{Case, try_all};
 use crate::punch::Card::*;
 use crate::punch::Item::*;
 use crate::punch::{Deck, SYM, add_cards, add_header, tray_of};
-use link::OpenNames;
 use std::alloc::{AllocError, Global};
 use std::process::Abort;
 use std::test::Fail;
@@ -103,14 +102,7 @@ impl ManyCase {
 impl Case for ManyCase {
     fn passes(&self, rt: &impl Abort, bench: &mut Bench) -> Result<(), Fail> {
         let steps = self.all_steps(bench.heap)?;
-        let plan = Plan {
-            why: self.why,
-            size: 8,
-            steps: steps.as_slice(),
-            open: OpenNames::Refused,
-            fixed: None,
-            map: None,
-        };
+        let plan = Plan::of_steps(self.why, 8, steps.as_slice());
         bench.link_tray(rt, large_tray(bench.heap)?, plan)
     }
 }

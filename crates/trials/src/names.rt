@@ -4,10 +4,8 @@ use card::{Name, punched};
 // The name of a text of at most eight characters, with blanks behind it.
 pub(crate) fn name(text: &str) -> Name {
     let mut bytes = [0x40; 8];
-    for (i, character) in text.as_bytes().iter().enumerate() {
-        if i < 8 {
-            bytes[i] = punched(*character).unwrap_or(0x40);
-        }
+    for (byte, character) in bytes.iter_mut().zip(text.as_bytes()) {
+        *byte = punched(*character).unwrap_or(0x40);
     }
     Name { bytes }
 }

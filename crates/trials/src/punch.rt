@@ -68,11 +68,9 @@ fn blank_card() -> [u8; 80] {
 
 // Writes bytes from a column on, the first being column 1; what would pass the last is left out.
 fn put(card: &mut [u8; 80], column: usize, bytes: &[u8]) {
-    for (i, byte) in bytes.iter().enumerate() {
-        let place = column.saturating_sub(1).saturating_add(i);
-        if place < 80 {
-            card[place] = *byte;
-        }
+    let places = card.iter_mut().skip(column.saturating_sub(1));
+    for (place, byte) in places.zip(bytes) {
+        *place = *byte;
     }
 }
 
@@ -113,18 +111,15 @@ fn item_fields(item: Item) -> (&'static str, u8, u32, u32) {
 fn esd_card(first_id: u16, items: &[Item]) -> [u8; 80] {
     let mut card = plain_card(0x02, ESD, 0);
     put_half(&mut card, 15, first_id);
-    let mut count = 0u16;
-    let mut column = 17usize;
-    for item in items {
+    for (item, column) in items.iter().zip([17usize, 33, 49]) {
         let (text, number, address, last) = item_fields(*item);
         put_name(&mut card, column, text);
         put(&mut card, column.saturating_add(8), &[number]);
         put_third(&mut card, column.saturating_add(9), address);
         put_third(&mut card, column.saturating_add(13), last);
-        count = count.saturating_add(16);
-        column = column.saturating_add(16);
     }
-    put_half(&mut card, 11, count);
+    let count = items.len().saturating_mul(16);
+    put_half(&mut card, 11, u16::try_from(count).unwrap_or(u16::MAX));
     card
 }
 

@@ -1,7 +1,8 @@
 // What opening a tray and making an area are refused for: 1, 2, 5 and 9.
-use crate::bench::{Told, telling, told_by};
+use crate::bench::telling;
 use crate::punch::Card::End;
 use crate::punch::{Deck, add_cards, add_header, tray_of};
+use card::Refusal;
 use library::Tray;
 use link::Area;
 use std::alloc::{AllocError, Global};
@@ -104,22 +105,22 @@ fn bytes_of(heap: Global, bytes: Bytes) -> Result<Vec<u8>, AllocError> {
     Ok(tray)
 }
 
-fn opened(tray: Vec<u8>) -> Option<Told> {
+fn opened(tray: Vec<u8>) -> Option<Refusal> {
     match Tray::open(tray) {
         Ok(_) => None,
-        Err(fault) => Some(told_by(fault.refusal())),
+        Err(fault) => Some(Refusal::from(fault)),
     }
 }
 
-fn made(origin: Option<u32>, size: u32) -> Option<Told> {
+fn made(origin: Option<u32>, size: u32) -> Option<Refusal> {
     match Area::new(origin, size) {
         Ok(_) => None,
-        Err(fault) => Some(told_by(fault.refusal())),
+        Err(fault) => Some(Refusal::from(fault)),
     }
 }
 
 // What the rule of that number tells where there is no deck.
-fn broken(number: Option<u8>) -> Option<Told> {
+fn broken(number: Option<u8>) -> Option<Refusal> {
     Some(telling(number?, "", 0))
 }
 

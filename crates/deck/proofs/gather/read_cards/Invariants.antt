@@ -1,8 +1,8 @@
-use Rattle.std.proofs.Common.{◌≡◌}
+use Rattle.std.proofs.Common.{◌≡◌, ◌-◌}
 use Rattle.deck.specs.Gathered.{Within}
 use Rattle.deck.proofs.gather.read_cards.Given as goal
 
-abbrev pub invariant-loop-i : goal.invariant-loop-i
-invariant-loop-i g l =
+abbrev pub invariant-loop-card : goal.invariant-loop-card
+invariant-loop-card g l =
     (g.L.Library.meaning l.library ≡ g.L.Library.meaning l.initial.library)
-    × Within l.i l.punched
+    × Within (l.card - 1) l.punched

@@ -1,16 +1,12 @@
-use Rattle.std.proofs.Common.{◌+◌, ◌*◌, rules}
-use Rattle.layer.specs.Renamed.{renamings}
-use Rattle.layer.specs.Changed.{edited}
-use Rattle.layer.proofs.Editing.{from_more, from_all}
+use Rattle.std.proofs.Common.{map, sym, ap, ◌∙◌}
+use Rattle.std.proofs.lemmas.List.{at_drop_all}
+use Rattle.std.specs.List.{fold}
+use Rattle.layer.specs.Renamed.{renaming}
+use Rattle.layer.specs.Changed.{rename_at, edited}
 use Rattle.layer.proofs.edit.edit.Goals as goal
-
-pub loop-k-preserved : goal.loop-k-preserved
-loop-k-preserved c =
-    let step = from_more (renamings c.args.pairs.now) c.name_count-n.result c.loop-k.k c.loop-k.card c.loop-k-test.true in
-    search rules
 
 pub returns : goal.returns
 unfolding edited
 returns c =
-    let step = from_all (renamings c.args.pairs.now) c.name_count-n.result c.loop-k.k (16 + 16 * c.loop-k.k) c.loop-k.card c.loop-k-test.false in
-    search rules
+    let f = rename_at (map renaming c.args.pairs.now) in
+    sym (ap (fold f c.args.card.now) (sym c.name_places-at-items.ensures.value) ∙ c.loop-at.invariant ∙ at_drop_all (fold f c.loop-at.card) c.name_places-at-items.result.now c.loop-at.at-index c.loop-at-test.false)

@@ -1,6 +1,9 @@
-use Rattle.std.proofs.Common.{◌≡◌, drop}
+use Rattle.std.proofs.Common.{◌≡◌, length}
 use Rattle.library.specs.Faults.{all_apart}
 use Rattle.library.proofs.check.all_apart.Given as goal
 
-abbrev pub invariant-loop-i : goal.invariant-loop-i
-invariant-loop-i l = all_apart l.names ≡ all_apart (drop l.i l.names)
+abbrev pub invariant-loop-name : goal.invariant-loop-name
+invariant-loop-name l = all_apart l.names ≡ all_apart l.left
+
+abbrev pub decreases-loop-name : goal.decreases-loop-name
+decreases-loop-name l = length l.left

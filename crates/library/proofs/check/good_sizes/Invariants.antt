@@ -1,7 +1,9 @@
-use Rattle.std.proofs.Common.{◌≡◌, drop}
-use Rattle.library.specs.Decks.{cards_of}
+use Rattle.std.proofs.Common.{◌≡◌, length}
 use Rattle.library.specs.Faults.{good_sizes}
 use Rattle.library.proofs.check.good_sizes.Given as goal
 
-abbrev pub invariant-loop-k : goal.invariant-loop-k
-invariant-loop-k l = good_sizes (cards_of l.bytes) ≡ good_sizes (drop l.k (cards_of l.bytes))
+abbrev pub invariant-loop-card : goal.invariant-loop-card
+invariant-loop-card l = good_sizes l.cards ≡ good_sizes l.left
+
+abbrev pub decreases-loop-card : goal.decreases-loop-card
+decreases-loop-card l = length l.left

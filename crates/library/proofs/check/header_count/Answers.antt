@@ -1,18 +1,11 @@
-use Rattle.std.proofs.Common.{length, rules}
-use Rattle.library.specs.Decks.{header_names}
-use Rattle.library.proofs.Trays.{at_card, past_cards}
+use Rattle.std.proofs.Common.{◌≡◌, filter, sym, ◌∙◌, rules}
+use Rattle.std.proofs.lemmas.List.{length-map}
+use Rattle.std.proofs.lemmas.List.Sums.{length-filter}
+use Rattle.std.specs.List.{count_by}
+use Rattle.library.specs.Decks.{is_header, name_on}
 use Rattle.library.proofs.check.header_count.Goals as goal
-use Rattle.library.proofs.check.header_count.Goals.{then-is_header, else-is_header}
-
-pub loop-k-preserved : goal.loop-k-preserved
-loop-k-preserved c =
-    let step = at_card (λ x. length (header_names x)) c.args.bytes.now c.loop-k.k c.loop-k-test.true in
-    elim c.if-is_header.branch [
-      | then-is_header w ↦ (search rules, search rules)
-      | else-is_header w ↦ (search rules, search rules)
-    ]
 
 pub returns : goal.returns
 returns c =
-    let step = past_cards (λ x. length (header_names x)) c.args.bytes.now c.loop-k.k c.loop-k-test.false in
-    search rules
+    let counted : c.count.result ≡ count_by is_header c.args.cards.now = search rules in
+    counted ∙ sym (length-map (filter is_header c.args.cards.now) name_on ∙ length-filter is_header c.args.cards.now)
