@@ -20,7 +20,8 @@ pub fn shown(byte: u8) -> u8
     SHOWN[byte as usize]
 }
 
-// The byte that prints as a character; none for a full stop and what is not in the table.
+// The byte that prints as a character; none for a full stop and what is not in the table. The bytes themselves are walked, and not the
+// table: so `shown`, which is proved once over all its entries, serves here too.
 pub fn punched(character: u8) -> Option<u8>
     ensures { MatchOption result (Unprintable character) (λ b. Prints b character) }
 {

@@ -108,8 +108,8 @@ pub(crate) struct Pointers {
     pub(crate) p: u16,
 }
 
-// An RLD card: the first `count` of the places hold its items. Kept for the reason given at `Text`; besides, the unused places of
-// such a vector ask for a default, which a constant has not.
+// An RLD card: the first `count` of the places hold its items. A vector of fixed capacity would ask for a default of its
+// elements, which a constant has not.
 #[derive(Clone, Copy)]
 pub struct RldCard {
     pub(crate) count: usize,
@@ -125,7 +125,7 @@ pub enum Entry<S> {
 }
 
 // An END card: its entry point, and the length of the one section of ESD length zero.
-#[derive(Clone, Copy)]
+#[derive(Clone, Copy, Default)]
 pub struct EndCard {
     pub entry: Option<Entry<u16>>,
     pub length: Option<u32>,

@@ -1,5 +1,5 @@
 // The fields of a card: numbers with the high byte first, and names. The numbers have three functions and not one for any number
-// of bytes: each is one call of `from_be_bytes` at its own type, and IDs stay u16.
+// of bytes: that one would copy the bytes behind zeros first, and cast IDs back to u16, where each of these is one call.
 ghost use Rattle.std.specs.Prelude.{◌≡◌, ◌+◌, ◌<◌, ◌≤◌};
 ghost use Rattle.card.specs.Numbers.{big};
 ghost use Rattle.card.specs.Names.{name_at};

@@ -32,6 +32,7 @@ impl Name {
     }
 }
 
+// Not derived: that would be eight zero bytes.
 impl Default for Name {
     ghost is_default = { λ name. name ≡ blank_name };
 

@@ -27,6 +27,8 @@ pub struct Refusal {
 }
 
 impl Refusal {
+    // Layer and number are told side by side, so each fault gives both where a reader sees them.
+
     // The rule of that number, of a layer, broken by a deck as a whole.
     pub fn of_deck(layer: Layer, number: u8, deck: u64) -> Refusal
         ensures { result ≡ of_deck layer number deck }

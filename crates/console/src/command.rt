@@ -54,6 +54,7 @@ fn alone(command: Command, rest: &[u8]) -> Option<Command>
     rest.is_empty().then_some(command)
 }
 
+// The letters are matched as they are typed; a table of closures would say no more than these six arms.
 fn letter_command(letter: char, rest: &[u8]) -> Option<Command>
     ensures { result ≡ letter_command letter rest.now }
 {

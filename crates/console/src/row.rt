@@ -21,6 +21,7 @@ fn kind_text(kind: MapKind) -> [u8; 2]
 }
 
 // The characters that a name's bytes print as.
+// By its parts and not by `map`: what that gives is known as a relation only, and the clause did not close.
 fn name_text(name: Name) -> [u8; 8]
     ensures { result ≡ name_text name }
 {
@@ -63,7 +64,8 @@ pub fn hex6(n: u32) -> [u8; 6]
     ]
 }
 
-// A row of the map: name, kind, address and length, a blank between.
+// A row of the map: name, kind, address and length, a blank between. Copying the parts into a line of blanks was tried; what is left
+// of the line after several copies did not close.
 pub fn row_text(line: MapLine) -> [u8; 25]
     ensures { result ≡ row_text line }
 {

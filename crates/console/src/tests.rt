@@ -5,35 +5,28 @@ use crate::row::{entry_text, refused_text, row_text};
 use card::Name;
 use link::{MapKind, MapLine};
 
-// The letter of a line's command, and its name as a number, blank where it has none.
-fn told(line: &str) -> Option<(char, u64)> {
-    let blank = Name::blank();
-    let (letter, name) = match command_of(line.as_bytes())? {
-        Command::Include(name) => ('I', name),
-        Command::Entry(name) => ('E', name),
-        Command::Calls => ('C', blank),
-        Command::Fix => ('F', blank),
-        Command::FixOpen => ('L', blank),
-        Command::Map => ('M', blank),
-    };
-    Some((letter, name.number()))
+// A name by the number that its bytes make.
+fn named(number: u64) -> Name {
+    Name {
+        bytes: number.to_be_bytes(),
+    }
 }
 
 #[test]
 fn commands(rt: HostRuntime) {
-    let none = 0x4040_4040_4040_4040;
-    let main = 0xD4C1_C9D5_4040_4040;
-    let signs = 0x40E9_F07C_7B5B_40F9;
-    for (line, letter, name) in [
-        ("I MAIN", 'I', main),
-        ("E  Z0@#$ 9", 'E', signs),
-        ("I ", 'I', none),
-        ("C", 'C', none),
-        ("F", 'F', none),
-        ("L", 'L', none),
-        ("M", 'M', none),
+    let none = named(0x4040_4040_4040_4040);
+    let main = named(0xD4C1_C9D5_4040_4040);
+    let signs = named(0x40E9_F07C_7B5B_40F9);
+    for (line, command) in [
+        ("I MAIN", Command::Include(main)),
+        ("E  Z0@#$ 9", Command::Entry(signs)),
+        ("I ", Command::Include(none)),
+        ("C", Command::Calls),
+        ("F", Command::Fix),
+        ("L", Command::FixOpen),
+        ("M", Command::Map),
     ] {
-        assert_eq!(rt; told(line), Some((letter, name)), "{}", line);
+        assert_eq!(rt; command_of(line.as_bytes()), Some(command), "{}", line);
     }
 }
 
@@ -53,7 +46,7 @@ fn no_commands(rt: HostRuntime) {
         "X",
         "I é",
     ] {
-        assert_eq!(rt; told(line), None, "{}", line);
+        assert_eq!(rt; command_of(line.as_bytes()), None, "{}", line);
     }
 }
 

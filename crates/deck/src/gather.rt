@@ -28,10 +28,7 @@ impl Punched {
         self.items.all.clear();
         self.texts.all.clear();
         self.constants.all.clear();
-        self.end = EndCard {
-            entry: None,
-            length: None,
-        };
+        self.end = EndCard::default();
     }
 
     // One item, which has the ID `id` unless it is a label; gives the ID of the next.
@@ -164,6 +161,7 @@ pub(crate) fn read_cards<L: Library>(
 {
     let cards = ask_count(library, name)?;
     let deck = name.number();
+    // The library is asked for each card by its number.
     for card in 1..=cards {
         let at = CardAt { deck, card };
         let bytes = ask_card(library, name, at)?;

@@ -11,6 +11,9 @@ use table::{Count, Row, insert, lookup};
 // One row for each of the 256 IDs that a deck may give; the value is the item's place among the deck's items.
 pub type IdRows = [Row<u16, usize>; 256];
 
+// Rows to lend, none of them in use.
+pub const NO_IDS: IdRows = [Row { key: 0, value: 0 }; 256];
+
 // A guard over the count record alone: it empties the table when it is made and on every way out.
 pub(crate) struct Emptied<'a> {
     pub(crate) count: &'a mut Count,

@@ -16,7 +16,7 @@ mod rules;
 
 pub use content::Deck;
 pub use fault::DeckFault;
-pub use ids::IdRows;
+pub use ids::{IdRows, NO_IDS};
 pub use punched::MAX_ITEMS;
 pub use room::DeckRoom;
 pub use rules::{OnCard, Rule, lower, unbroken, worst};

@@ -11,7 +11,8 @@ pub(crate) const MAX_TEXTS: usize = 512;
 
 pub(crate) const MAX_CONSTANTS: usize = 7_168;
 
-// Room for a deck of 512 cards. `Deck` has lists of the same lengths, but of what the IDs here come to, and no END card.
+// Room for a deck of 512 cards. `Deck` has lists of the same lengths, of what the IDs here come to. One struct for the lists of both
+// would need two parameters (a label's ID has three bytes, the others two), and every use would go through it: no plainer.
 #[derive(Drop)]
 pub(crate) struct Punched {
     pub(crate) items: Reserved<OnCard<Item<u32>>, MAX_ITEMS>,
@@ -26,10 +27,7 @@ impl Punched {
             items: Reserved::new(heap)?,
             texts: Reserved::new(heap)?,
             constants: Reserved::new(heap)?,
-            end: EndCard {
-                entry: None,
-                length: None,
-            },
+            end: EndCard::default(),
         })
     }
 }

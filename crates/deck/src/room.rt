@@ -73,7 +73,8 @@ impl DeckRoom {
         unbroken(deck, again).map_err(DeckFault::NameTwice)
     }
 
-    // Reads the deck of a name from a library and judges it whole; the ID table is empty afterwards.
+    // Reads the deck of a name from a library and judges it whole; the ID table is empty afterwards, which each call that is lent
+    // it says for itself: no type of a `&mut` can.
     pub fn read<L: Library>(
         &mut self,
         library: &mut L,

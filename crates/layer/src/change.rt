@@ -15,7 +15,8 @@ use library::{Library, LibraryFault, NoCard};
 
 const MAX_PAIRS: usize = 16;
 
-// Its cards come with each old name of the table changed to its new name.
+// Its cards come with each old name of the table changed to its new name. `Withhold` is made and given back alike; one struct under
+// both would put a second value between a layer and its table.
 #[derive(Drop)]
 pub struct Change<L> {
     below: L,

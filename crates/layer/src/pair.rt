@@ -10,6 +10,7 @@ pub(crate) struct Pair {
     ghost sized: { length new.bytes ≡ 8 },
 }
 
+// Not derived: a derive knows nothing of `sized`.
 impl Default for Pair {
     fn default() -> Pair {
         Pair {

@@ -16,7 +16,8 @@ pub(crate) fn is_header(card: &[u8; 80]) -> bool
     card[0] == 0xC4 && card[1] == 0xC5 && card[2] == 0xC3 && card[3] == 0xD2
 }
 
-// The name on a header.
+// The name on a header. `card` reads names at any place, for its own cards; a public function for both would have to refuse a place
+// too near the end.
 pub(crate) fn name_on(card: &[u8; 80]) -> [u8; 8]
     ensures { result ≡ name_on card.now }
 {

@@ -58,6 +58,8 @@ fn header_count(cards: &[[u8; 80]]) -> usize
     cards.iter().filter(|card| is_header(card)).count()
 }
 
+// This walk and that of `all_apart` look at an element and those behind it; one function for both would take the test as a closure
+// and promise no more than what that closure answers.
 fn good_sizes(cards: &[[u8; 80]]) -> bool
     ensures { result ≡ good_sizes cards.now }
 {

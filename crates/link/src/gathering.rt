@@ -25,7 +25,7 @@ pub(crate) struct Progress {
     pub(crate) chosen: Option<Name>,
 }
 
-// A link over a library: it takes decks, and ends by `fix` or `scrap`; it cannot be let go.
+// A link over a library. Each call says for itself that the area stays, as it is lent the whole link. It takes decks, and ends by `fix` or `scrap`; it cannot be let go.
 pub struct Link<L> {
     pub(crate) library: L,
     pub(crate) area: Area,

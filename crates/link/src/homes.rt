@@ -17,7 +17,9 @@ pub(crate) struct Home {
     pub(crate) shift: Shift,
 }
 
-// For each item of a deck where it goes.
+// For each item of a deck where it goes. It stands beside the deck's items and not in them: those are what the deck says, whatever
+// link takes it. Dictionary, items and homes go together through four functions, but two of these change the homes, so no struct can
+// lend all three.
 pub(crate) type Homes = Reserved<Home, MAX_ITEMS>;
 
 // Where the item at a place is kept, if it is a section that is.

@@ -1,12 +1,12 @@
 // A session: a link that gathers decks as lines ask, and then the program that it was fixed into.
 use card::Refusal;
 use console::{Command, command_of, entry_text, refused_text, row_text, what_text};
-use deck::IdRows;
+use deck::{IdRows, NO_IDS};
 use library::Tray;
 use link::{Called, Link, LinkFault, OpenNames, Program, Room};
 use std::io;
 use std::io::Write;
-use table::{Count, Row};
+use table::Count;
 
 // More calls than a link can answer by anything but none left.
 const MAX_CALLS: u16 = 1025;
@@ -23,7 +23,7 @@ pub struct IdTable {
 impl IdTable {
     pub fn new() -> IdTable {
         IdTable {
-            rows: [Row { key: 0, value: 0 }; 256],
+            rows: NO_IDS,
             count: Count { rows: 0 },
         }
     }

@@ -1,21 +1,13 @@
 // A bench: libraries are linked step by step and fixed, and each answer is held to what it should be.
 use crate::names::name;
 use card::{Layer, Refusal};
-use deck::IdRows;
+use deck::{IdRows, NO_IDS};
 use library::{Library, Tray};
 use link::{Area, Called, Link, LinkFault, MapKind, MapLine, OpenNames, Program, Room};
 use std::alloc::{AllocError, Global};
 use std::process::Abort;
 use std::test::Fail;
-use table::{Count, Row};
-
-// What a call of the link answers.
-#[derive(Clone, Copy, PartialEq, Eq, Debug)]
-enum Answer {
-    Done,
-    NoneLeft,
-    Refused(Refusal),
-}
+use table::Count;
 
 // A call of the link. Steps are values and no closures, since they stand in constant tables of cases.
 #[derive(Clone, Copy)]
@@ -101,12 +93,12 @@ pub(crate) fn telling(number: u8, deck: &str, card: u16) -> Refusal {
     }
 }
 
-fn expected_answer(expected: Expected) -> Answer {
+fn answer_of(expected: Expected) -> Result<Called, Refusal> {
     match expected {
-        Expected::Done => Answer::Done,
-        Expected::NoneLeft => Answer::NoneLeft,
-        Expected::Refused(number, deck, card) => Answer::Refused(telling(number, deck, card)),
-        Expected::Flawed(deck, card, mark) => Answer::Refused(Refusal {
+        Expected::Done => Ok(Called::Taken),
+        Expected::NoneLeft => Ok(Called::NoneLeft),
+        Expected::Refused(number, deck, card) => Err(telling(number, deck, card)),
+        Expected::Flawed(deck, card, mark) => Err(Refusal {
             mark: Some(mark),
             ..telling(11, deck, card)
         }),
@@ -123,23 +115,10 @@ fn line_of(row: MapRow) -> MapLine {
     }
 }
 
-fn id_rows() -> IdRows {
-    [Row { key: 0, value: 0 }; 256]
-}
-
-fn done(res: Result<(), LinkFault>) -> Answer {
-    match res {
-        Ok(()) => Answer::Done,
-        Err(fault) => Answer::Refused(Refusal::from(fault)),
-    }
-}
-
-fn called(res: Result<Called, LinkFault>) -> Answer {
-    match res {
-        Ok(Called::Taken) => Answer::Done,
-        Ok(Called::NoneLeft) => Answer::NoneLeft,
-        Err(fault) => Answer::Refused(Refusal::from(fault)),
-    }
+// What a call answers that takes what it is given, if it is not refused.
+fn done(answer: Result<(), LinkFault>) -> Result<Called, Refusal> {
+    answer?;
+    Ok(Called::Taken)
 }
 
 fn open_tray(bytes: Vec<u8>) -> Result<Tray, Fail> {
@@ -169,25 +148,30 @@ fn entry_of<L>(program: &Program<L>) -> Result<u32, Refusal> {
 fn check_fix<L>(
     rt: &impl Abort,
     program: &Program<L>,
-    checked: Answer,
+    checked: Result<Called, Refusal>,
     fixed: Result<u32, u8>,
     why: &str,
 ) {
     match fixed {
         Ok(entry) => {
-            assert_eq!(rt; checked, Answer::Done, "{why}");
+            assert_eq!(rt; checked, Ok(Called::Taken), "{why}");
             assert_eq!(rt; entry_of(program), Ok(entry), "{why}");
         }
         Err(number) => {
             let told = telling(number, "", 0);
-            assert_eq!(rt; checked, Answer::Refused(told), "{why}");
+            assert_eq!(rt; checked, Err(told), "{why}");
             assert_eq!(rt; entry_of(program), Err(told), "{why}");
             check_map(rt, program, &[], why);
         }
     }
 }
 
-fn check_program<L>(rt: &impl Abort, program: &Program<L>, checked: Answer, plan: Plan<'_>) {
+fn check_program<L>(
+    rt: &impl Abort,
+    program: &Program<L>,
+    checked: Result<Called, Refusal>,
+    plan: Plan<'_>,
+) {
     if let Some(fixed) = plan.fixed {
         check_fix(rt, program, checked, fixed, plan.why);
     }
@@ -201,15 +185,15 @@ impl Bench {
         Ok(Bench {
             heap,
             room: Some(Room::new(heap)?),
-            rows: id_rows(),
+            rows: NO_IDS,
             count: Count { rows: 0 },
         })
     }
 
-    fn make<L: Library>(&mut self, link: &mut Link<L>, step: Step) -> Answer {
+    fn make<L: Library>(&mut self, link: &mut Link<L>, step: Step) -> Result<Called, Refusal> {
         match step {
             Step::Include(text) => done(link.include(name(text), &mut self.rows, &mut self.count)),
-            Step::Call => called(link.call(&mut self.rows, &mut self.count)),
+            Step::Call => Ok(link.call(&mut self.rows, &mut self.count)?),
             Step::Entry(text) => done(link.entry(name(text))),
         }
     }
@@ -218,7 +202,7 @@ impl Bench {
     fn gather<L: Library>(&mut self, rt: &impl Abort, link: &mut Link<L>, plan: Plan<'_>) {
         for (step, expected) in plan.steps {
             let answer = self.make(link, *step);
-            assert_eq!(rt; answer, expected_answer(*expected), "{}", plan.why);
+            assert_eq!(rt; answer, answer_of(*expected), "{}", plan.why);
         }
     }
 

@@ -66,6 +66,7 @@ const CASES: &[ManyCase] = &[
 // Puts a deck of so many private sections of length zero behind the bytes of a tray, one to a card.
 fn add_private(tray: &mut Vec<u8>, text: &str, sections: u16) -> Result<(), AllocError> {
     add_header(tray, text)?;
+    // The number is the section's ID less one.
     for i in 0..sections {
         add_cards(tray, Esd(i.saturating_add(1), &[Pc(0, 0)]), 1)?;
     }

@@ -78,7 +78,7 @@ fn add_same(tray: &mut Vec<u8>, decks: u16) -> Result<(), AllocError> {
     Ok(())
 }
 
-// Puts what is not given as decks behind the bytes of a tray.
+// Puts what is not given as decks behind the bytes of a tray. Kinds of bytes are values and no closures, as they stand in a table.
 fn add_bytes(tray: &mut Vec<u8>, bytes: Bytes) -> Result<(), AllocError> {
     match bytes {
         Decks(_) => Ok(()),
@@ -106,17 +106,13 @@ fn bytes_of(heap: Global, bytes: Bytes) -> Result<Vec<u8>, AllocError> {
 }
 
 fn opened(tray: Vec<u8>) -> Option<Refusal> {
-    match Tray::open(tray) {
-        Ok(_) => None,
-        Err(fault) => Some(Refusal::from(fault)),
-    }
+    Tray::open(tray).err().map(|fault| Refusal::from(fault))
 }
 
 fn made(origin: Option<u32>, size: u32) -> Option<Refusal> {
-    match Area::new(origin, size) {
-        Ok(_) => None,
-        Err(fault) => Some(Refusal::from(fault)),
-    }
+    Area::new(origin, size)
+        .err()
+        .map(|fault| Refusal::from(fault))
 }
 
 // What the rule of that number tells where there is no deck.
