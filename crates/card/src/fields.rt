@@ -28,6 +28,8 @@ pub(crate) fn word(card: &[u8; 80], at: usize) -> u32
     u32::from_be_bytes([card[at], card[at + 1], card[at + 2], card[at + 3]])
 }
 
+// For the cards of this crate; `library` and `layer` read names of their own cards. A public function for all would have to refuse a place
+// too near the end.
 pub(crate) fn name_at(card: &[u8; 80], at: usize) -> Name
     requires { at + 8 ≤ 80 }
     ensures { result ≡ name_at card.now at }

@@ -9,6 +9,7 @@ use std::alloc::{AllocError, Global};
 
 // Sections, labels, references and commons; texts; relocation items; and the entry point. Sections and what constants move with
 // stand by their places among the items, as no field can borrow from another of its struct. All addresses are input addresses.
+// `Punched` has lists of the same lengths; why the two are no one struct stands there.
 #[derive(Drop)]
 pub struct Deck {
     pub(crate) items: Reserved<OnCard<Item<usize>>, MAX_ITEMS>,

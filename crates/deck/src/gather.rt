@@ -115,6 +115,8 @@ impl Punched {
     }
 }
 
+// What follows is lent a library, and says each time that its meaning stays; why stands at the trait.
+
 // The number of cards of a deck.
 fn ask_count<L: Library>(library: &mut L, name: Name) -> Result<u16, LibraryFault>
     ensures same { L.Library.meaning library.new ≡ L.Library.meaning library.old }

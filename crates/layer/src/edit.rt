@@ -41,7 +41,7 @@ fn item_places(bytes: u16) -> &'static [usize]
     }
 }
 
-// Changes the name in the eight bytes from a place on.
+// Changes the name in the eight bytes from a place on. It reads them as `card` does, whose function is not public: it asks a bound.
 fn rename_at(card: &mut [u8; 80], at: usize, pairs: &[Pair])
     requires { at + 8 ≤ 80 }
     ensures { card.new ≡ rename_at (map renaming pairs.entry.now) card.old at }

@@ -11,7 +11,7 @@ use library::{Library, LibraryFault, NoCard};
 
 const MAX_NAMES: usize = 32;
 
-// A name of the table has nothing, every other name what it has below.
+// A name of the table has nothing, every other name what it has below. Made and given back as `Change` is; the reason stands there.
 #[derive(Drop)]
 pub struct Withhold<L> {
     below: L,

@@ -106,6 +106,7 @@ fn header_names(cards: &[[u8; 80]]) -> ArrayVec<[u8; 8], MAX_DECKS>
     names
 }
 
+// A walk of its own; the reason stands at `good_sizes`.
 fn all_apart(names: &[[u8; 8]]) -> bool
     ensures { result ≡ all_apart names.now }
 {

@@ -16,6 +16,7 @@ const OPEN: Line = Line {
     marked: false,
 };
 
+// `Key` has its own equality (see there); this one is what `Eq` is derived to be.
 impl Key for LineName {
     ghost same = { same_line_name };
 

@@ -162,6 +162,7 @@ impl Dictionary {
     }
 }
 
+// That the library's meaning and the area stay, and that the ID table is empty, is told by each call: no type of a `&mut` can.
 impl<L: Library> Link<L> {
     // A link that has taken nothing yet.
     pub fn open(library: L, area: Area, room: Room) -> Link<L>

@@ -34,7 +34,8 @@ impl Line {
     }
 }
 
-// One line a name in order of first appearance, and one for every private section; at most 1,024.
+// One line a name in order of first appearance, and one for every private section; at most 1,024. Rows and count are the two fields
+// that the table's functions take.
 #[derive(Drop)]
 pub(crate) struct Dictionary {
     pub(crate) rows: Vec<Row<LineName, Line>>,
