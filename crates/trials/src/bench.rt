@@ -17,7 +17,7 @@ pub(crate) enum Step {
     Entry(&'static str),
 }
 
-// What a step has to answer.
+// What a step has to answer, as the tables of cases write it: a deck's text in place of its number, and no layer.
 #[derive(Clone, Copy)]
 pub(crate) enum Expected {
     Done,
@@ -121,7 +121,7 @@ fn done(answer: Result<(), LinkFault>) -> Result<Called, Refusal> {
     Ok(Called::Taken)
 }
 
-fn open_tray(bytes: Vec<u8>) -> Result<Tray, Fail> {
+pub(crate) fn open_tray(bytes: Vec<u8>) -> Result<Tray, Fail> {
     Tray::open(bytes).map_err(|_| Fail::new("the tray is refused"))
 }
 

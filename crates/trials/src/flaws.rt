@@ -14,8 +14,8 @@ use std::test::Fail;
 
 // Under every name a deck of two cards, of which the second is flawed with the mark 7.
 #[derive(Drop)]
-struct Marred {
-    first: [u8; 80],
+pub(crate) struct Marred {
+    pub(crate) first: [u8; 80],
     ghost sized: { length first ≡ 80 },
 }
 

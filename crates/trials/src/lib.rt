@@ -18,6 +18,8 @@ mod flaws;
 #[cfg(test)]
 mod includes;
 #[cfg(test)]
+mod layers;
+#[cfg(test)]
 mod limits;
 #[cfg(test)]
 mod maps;
