@@ -8,7 +8,10 @@ trap 'rm -rf "$copy"' EXIT
 mkdir -p "$copy/crates/misuse/src"
 for crate in card table reserved library deck link; do
     mkdir "$copy/crates/$crate"
-    cp -r "$here/crates/$crate/src" "$here/crates/$crate/specs" "$here/crates/$crate/proofs" "$copy/crates/$crate/"
+    # A crate that needs no proofs has no folder for them.
+    for part in src specs proofs; do
+        if [ -d "$here/crates/$crate/$part" ]; then cp -r "$here/crates/$crate/$part" "$copy/crates/$crate/"; fi
+    done
     grep "^$crate:" "$here/crates.txt" >> "$copy/crates.txt"
 done
 echo "misuse: card table library deck link" >> "$copy/crates.txt"
