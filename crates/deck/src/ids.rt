@@ -14,7 +14,7 @@ pub type IdRows = [Row<u16, usize>; 256];
 // Rows to lend, none of them in use.
 pub const NO_IDS: IdRows = [Row { key: 0, value: 0 }; 256];
 
-// A guard over the count record alone: it empties the table when it is made and on every way out.
+// A guard over the count record alone: it empties the table on every way out. Whoever makes it empties the table first.
 pub(crate) struct Emptied<'a> {
     pub(crate) count: &'a mut Count,
 }
