@@ -76,12 +76,15 @@ fn esd_item(card: &[u8; 80], at: usize) -> Option<Item<u32>>
     )
 }
 
-// The same, with the fault of a bad item.
+// The same, with the fault of a bad item. Not by `ok_or`, which copies the item once more: every item of every deck comes through here.
 fn good_item(card: &[u8; 80], at: usize, place: CardAt) -> Result<Item<u32>, CardFault>
     requires { at + 16 ≤ 80 }
     ensures { result ≡ or_item place (esd_item card.now at) }
 {
-    esd_item(card, at).ok_or(CardFault::BadItem(place))
+    let Some(item) = esd_item(card, at) else {
+        return Err(CardFault::BadItem(place));
+    };
+    Ok(item)
 }
 
 // What an ESD card says.

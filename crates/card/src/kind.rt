@@ -13,6 +13,7 @@ pub enum CardKind {
 
 impl CardKind {
     // The kind that columns 2 to 4 spell, whatever column 1 holds.
+    #[inline]
     pub fn of(card: &[u8; 80]) -> Option<CardKind>
         ensures { result ≡ spelled_kind card.now }
     {

@@ -78,6 +78,28 @@ kinds_within (Some kind) card = kind_within kind card
 pub names_within : (card : List ℕ) → Within (name_places card)
 names_within card = kinds_within (spelled_kind card) card
 
+few_by : (b : Bool) (ats bts : List ℕ) → length ats ≤ 3 → length bts ≤ 3 → length (cond b ats bts) ≤ 3
+few_by true ats bts h k = h
+few_by false ats bts h k = k
+
+pub items_few : (n : ℕ) → length (item_places n) ≤ 3
+items_few n = few_by (n == 16) _ _ (omega arith) (few_by (n == 32) _ _ (omega arith) (few_by (n == 48) _ _ (omega arith) (omega arith)))
+
+kind_few : (kind : CardKind) (card : List ℕ) → length (kind_places kind card) ≤ 3
+kind_few Esd card = items_few (byte_count card)
+kind_few Txt card = omega arith
+kind_few Rld card = omega arith
+kind_few End card = omega arith
+kind_few Sym card = omega arith
+
+kinds_few : (o : Option CardKind) (card : List ℕ) → length {A = ℕ} (elim o [ None ↦ [] | Some kind ↦ kind_places kind card ]) ≤ 3
+kinds_few None card = omega arith
+kinds_few (Some kind) card = kind_few kind card
+
+-- no card has more than three names that are looked up
+pub name_few : (card : List ℕ) → length (name_places card) ≤ 3
+name_few card = kinds_few (spelled_kind card) card
+
 rename_wide : (pairs : List Renaming) → AllEight pairs → (card : List ℕ) (at : ℕ) → at + 8 ≤ 80 → length card ≡ 80 → length (rename_at pairs card at) ≡ 80
 rename_wide pairs a card at k h =
     let e : length (take 8 (drop at card)) ≡ 8 = simp (length-take, length-drop) (omega arith) in

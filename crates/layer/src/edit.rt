@@ -1,5 +1,5 @@
 // Cards whose names are changed.
-ghost use Rattle.std.specs.Prelude.{◌≡◌, ◌+◌, ◌≤◌, map};
+ghost use Rattle.std.specs.Prelude.{◌≡◌, ◌+◌, ◌≤◌, length, map};
 ghost use Rattle.layer.specs.Renamed.{renaming};
 ghost use Rattle.layer.specs.Changed.{Within, item_places, name_places, rename_at, edited};
 
@@ -19,6 +19,7 @@ pub(crate) fn edit(card: &mut [u8; 80], pairs: &[Pair])
 // The places of the names that are looked up.
 fn name_places(card: &[u8; 80]) -> &'static [usize]
     ensures value { result.now ≡ name_places card.now }
+    ensures few { length result.now ≤ 3 }
     ensures within { Within result.now }
 {
     match CardKind::of(card) {
@@ -31,6 +32,7 @@ fn name_places(card: &[u8; 80]) -> &'static [usize]
 // The places of the items of an ESD card with that byte count.
 fn item_places(bytes: u16) -> &'static [usize]
     ensures value { result.now ≡ item_places bytes }
+    ensures few { length result.now ≤ 3 }
     ensures within { Within result.now }
 {
     match bytes {

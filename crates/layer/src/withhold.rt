@@ -33,7 +33,7 @@ impl<L: Library> Withhold<L> {
     fn withholds(&self, name: Name) -> bool
         ensures { result ≡ among name self.now.names.items }
     {
-        self.names.contains(&name)
+        self.names.iter().any(|other| *other == name)
     }
 
     fn is_bad(&self, name: Name) -> bool

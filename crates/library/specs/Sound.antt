@@ -9,7 +9,7 @@ use Rattle.std.specs.Option.{option_map}
 use Rattle.std.specs.Simd.{first_chunks}
 use Rattle.card.specs.declared.name.Name.{Name}
 use Rattle.library.specs.declared.fault.LibraryFault.TheVariants.{BadTrayLength, BadTrayDecks, NameTwice}
-use Rattle.library.specs.Decks.{cards_of, is_header, is_header_of, name_on, deck, header_names}
+use Rattle.library.specs.Decks.{cards_of, is_header, is_header_of, name_on, deck, under, header_names}
 use Rattle.library.specs.Faults.{good_length, good_start, good_size, good_behind, good_sizes, all_apart, tray_fault}
 use Rattle.library.specs.Held.{held_in}
 use Rattle.library.specs.Slots.{Card, Sound, AllWide}
@@ -66,6 +66,10 @@ cards_fit : (n : ℕ) (bytes : List ℕ) → 80 * n ≤ length bytes → Fit (fi
 cards_fit zero bytes h = λ k d below. absurd (omega arith)
 cards_fit (suc n) bytes h = All-cons (λ c. length c ≡ 80) _ _ (simp length-take (omega arith)) (cards_fit n (drop 80 bytes) (simp length-drop (omega arith)))
 
+-- so has every card before the next header
+deck_fit : (cs : List (List ℕ)) → Fit cs → Fit (deck cs)
+deck_fit cs h = All-take (λ c. length c ≡ 80) (position_or_len is_header cs) cs h
+
 slots_wide : (d : List (List ℕ)) → Fit d → AllWide (map Card d)
 slots_wide [] h = tt
 slots_wide (c ∷ cs) h = (All-head (λ x. length x ≡ 80) c cs h, slots_wide cs (All-tail (λ x. length x ≡ 80) c cs h))
@@ -78,8 +82,11 @@ found_sound : (name : List ℕ) (cs : List (List ℕ)) → good_sizes cs ≡ tru
 found_sound name cs g h None e = tt
 found_sound name cs g h (Some i) e =
     let left = drop (i + 1) cs in
-    deck_sound (deck left) (deck_good name cs i g e) (All-take (λ c. length c ≡ 80) (position_or_len is_header left) left (All-drop (λ c. length c ≡ 80) (i + 1) cs h))
+    deck_sound (deck left) (deck_good name cs i g e) (deck_fit left (All-drop (λ c. length c ≡ 80) (i + 1) cs h))
+
+under_sound : (name : List ℕ) (cs : List (List ℕ)) → good_sizes cs ≡ true → Fit cs → Sound (option_map (map Card) (under name cs))
+under_sound name cs g h = found_sound name cs g h (position (is_header_of name) cs) refl
 
 pub held_sound : (bytes : List ℕ) (name : Name) → tray_fault bytes ≡ None → Sound (held_in bytes name)
 held_sound bytes name h =
-    found_sound name.bytes (cards_of bytes) (sizes_good bytes h) (cards_fit (length bytes / 80) bytes (omega arith)) (position (is_header_of name.bytes) (cards_of bytes)) refl
+    under_sound name.bytes (cards_of bytes) (sizes_good bytes h) (cards_fit (length bytes / 80) bytes (omega arith))

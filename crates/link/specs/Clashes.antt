@@ -50,19 +50,19 @@ abbrev pub kept : Lines → Option Name → Bool
 kept rows None = true
 kept rows (Some name) = not (is_section (state_of name rows))
 
-abbrev pub kept_item : Lines → Item ℕ → Bool
-kept_item rows (item.Section name address size) = kept rows name
-kept_item rows (item.Label name address section) = false
-kept_item rows (item.Reference name strength) = false
-kept_item rows (item.Common name size) = false
+abbrev pub kept_kind : Lines → Item ℕ → Bool
+kept_kind rows (item.Section name address size) = kept rows name
+kept_kind rows (item.Label name address section) = false
+kept_kind rows (item.Reference name strength) = false
+kept_kind rows (item.Common name size) = false
 
-abbrev pub kept_if : Lines → Option (OnCard (Item ℕ)) → Bool
-kept_if rows None = false
-kept_if rows (Some x) = kept_item rows x.what
+abbrev pub kept_item : Lines → Option (OnCard (Item ℕ)) → Bool
+kept_item rows None = false
+kept_item rows (Some x) = kept_kind rows x.what
 
 -- the item at a place is a section that is kept
 abbrev pub kept_at : Lines → List (OnCard (Item ℕ)) → ℕ → Bool
-kept_at rows items place = kept_if rows (slice_get items place)
+kept_at rows items place = kept_item rows (slice_get items place)
 
 abbrev pub named_label : Lines → Option Name → Bool
 named_label rows None = false

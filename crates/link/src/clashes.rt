@@ -1,7 +1,7 @@
 // What a deck must not define, given the dictionary.
 ghost use Rattle.std.specs.Prelude.{◌≡◌};
 ghost use Rattle.link.specs.Lines.{lines};
-ghost use Rattle.link.specs.Clashes.{state_of, is_section, is_label, is_defined, kept, kept_at, kept_item, label_clash, common_too_long, passes_section, below_common};
+ghost use Rattle.link.specs.Clashes.{state_of, is_section, is_label, is_defined, kept, kept_at, kept_kind, label_clash, common_too_long, passes_section, below_common};
 
 use crate::lines::{Dictionary, LineState};
 use card::{Item, Name};
@@ -49,7 +49,7 @@ impl Dictionary {
 
 // Whether an item is a section that is kept.
 fn keeps_item(dictionary: &Dictionary, item: Item<usize>) -> bool
-    ensures { result ≡ kept_item (lines dictionary.now) item }
+    ensures { result ≡ kept_kind (lines dictionary.now) item }
 {
     match item {
         Item::Section { name, .. } => dictionary.keeps(name),

@@ -75,10 +75,8 @@ pub fn find<K: Key, V: Copy>(rows: &[Row<K, V>], count: &Count, key: K) -> Optio
 pub fn lookup<K: Key, V: Copy>(rows: &[Row<K, V>], count: &Count, key: K) -> Option<V>
     ensures { result ≡ value_under K.Key.same key (held count.now rows.now) }
 {
-    held(rows, count)
-        .iter()
-        .find(|row| row.key.equals(key))
-        .map(|row| row.value)
+    let row = held(rows, count).iter().find(|row| row.key.equals(key))?;
+    Some(row.value)
 }
 
 // Puts a row behind the held ones and tells its place; changes nothing where no row is free.
