@@ -77,6 +77,7 @@ fn esd_item(card: &[u8; 80], at: usize) -> Option<Item<u32>>
 }
 
 // The same, with the fault of a bad item. Not by `ok_or`, which copies the item once more: every item of every deck comes through here.
+#[inline]
 fn good_item(card: &[u8; 80], at: usize, place: CardAt) -> Result<Item<u32>, CardFault>
     requires { at + 16 ≤ 80 }
     ensures { result ≡ or_item place (esd_item card.now at) }
